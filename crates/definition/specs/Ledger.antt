@@ -1,0 +1,153 @@
+-- The plain ledger of demand 3: chains with slots, key, content, mark and count, the free slots in order, FILLED.
+-- Each call is a step on the ledger alone, which knows no mark of a slot, no link and no offset: of the layout it takes only into
+-- how many parts a content is cut. How a table is read as a ledger is said in Run.
+use Prim.Native.Nat.{ℕ, zero, suc, _+_, _-_}
+use mathlib.Core.Bool.{Bool, cond, _&&_, _||_, not}
+use mathlib.Core.List.{List, [], _∷_, _++_, headD}
+use mathlib.Core.Option.{Option, none, some}
+use lib.IntN.{ℤ}
+use lib.ListN.{length}
+use lib.Dec.{eqb, leb, ltb}
+use Rattle.definition.specs.declared.Settings.{Settings}
+use Rattle.definition.specs.Numbers.{sameBytes, over}
+use Rattle.definition.specs.Tests.{refuse, first}
+use Rattle.definition.specs.Slots.{partialKey}
+use Rattle.definition.specs.Parts.{prefix, pieces}
+use Rattle.definition.specs.Effect.{newSlots, freeAfter, filledAfter}
+use Rattle.definition.specs.Answers.{Answer, refusal, at, accepted, count, lastReference, found, content, members}
+use Rattle.definition.specs.Calls.{newCount, keyTest, checkedKeyTest, uncountedTest, valueTest, roomTest, outputTest}
+
+pub record Chain : Type 0 where
+  pub slots : List ℕ
+  pub key : List ℕ
+  pub content : List ℕ
+  pub mark : Bool
+  pub count : ℕ
+
+pub record Ledger : Type 0 where
+  -- the chain that starts at a slot, if one does
+  pub chains : ℕ → Option Chain
+  pub free : List ℕ
+  pub filled : ℕ
+
+-- ---- the calls
+
+-- a call with its arguments: keys, contents and marks, slots, the step, the lent output
+pub data Call : Type 0 where
+  Insert : List ℕ → List ℕ → Bool → Call
+  Replace : List ℕ → List ℕ → Bool → ℕ → Call
+  Remove : ℕ → Call
+  Change : ℤ → ℕ → Call
+  Read : Option (List ℕ) → ℕ → List ℕ → Call
+  ReadFixed : Option (List ℕ) → ℕ → Call
+  FindFixed : Option (List ℕ) → ℕ → Call
+  FreeCount : Call
+
+-- what a call leaves: its answer, the table or ledger afterwards, the output afterwards (empty where a call has none)
+pub record Outcome (X : Type 0) : Type 0 where
+  pub answer : Answer
+  pub after : X
+  pub output : List ℕ
+
+abbrev pub wrote : {X : Type 0} → Answer × X → Outcome X
+wrote r = record { answer = r .0; after = r .1; output = [] }
+
+abbrev pub told : {X : Type 0} → X → Answer × List ℕ → Outcome X
+told x r = record { answer = r .0; after = x; output = r .1 }
+
+-- ---- each call on a ledger
+
+-- L with this chain at h, or none, and these free slots and FILLED
+unfoldable pub withChain : Ledger → ℕ → Option Chain → List ℕ → ℕ → Ledger
+withChain L h c free F = record { chains = λ i. cond (eqb i h) c (L .chains i); free = free; filled = F }
+
+unfoldable pub newChain : Settings → List ℕ → List ℕ → Bool → List ℕ → Option Chain
+newChain s k c m slots = some (record { slots = slots; key = cond (s .keyed) (partialKey k) []; content = c; mark = m; count = 1 })
+
+unfoldable pub slotsIn : Option Chain → List ℕ
+slotsIn none = []
+slotsIn (some c) = c .slots
+
+-- the step, or, where a test refuses, its number and what was there
+unfoldable pub unlessStep : {X : Type 0} → ℕ → X → Answer × X → Answer × X
+unlessStep zero old out = out
+unlessStep (suc n) old out = (refusal (suc n), old)
+
+-- 7 and 8: the slot is none in use, or no chain starts there
+unfoldable pub chainTest : Ledger → ℕ → ℕ
+chainTest L h = first (refuse 7 (eqb h 0 || leb (L .filled) h) ∷ absent (L .chains h) ∷ [])
+  where
+    absent : Option Chain → ℕ
+    absent none = 8
+    absent (some c) = 0
+
+-- 8: the checked key differs
+unfoldable pub ledgerKeyTest : Settings → Option (List ℕ) → Option Chain → ℕ
+ledgerKeyTest s k none = 0
+ledgerKeyTest s none (some c) = 0
+ledgerKeyTest s (some k) (some c) = refuse 8 (s .keyed && not (sameBytes (c .key) (partialKey k)))
+
+unfoldable pub contentIn : Option Chain → List ℕ
+contentIn none = []
+contentIn (some c) = c .content
+
+unfoldable pub foundIn : Option Chain → Answer
+foundIn none = refusal 8
+foundIn (some c) = found (length (c .content)) (c .mark) (c .count) (length (c .slots))
+
+unfoldable pub recount : ℕ → Chain → Chain
+recount n c = record { slots = c .slots; key = c .key; content = c .content; mark = c .mark; count = n }
+
+unfoldable pub ledgerCounted : Ledger → ℕ → Chain → Option ℕ → Answer × Ledger
+ledgerCounted L h c none = (lastReference, L)
+ledgerCounted L h c (some n) = (count n, withChain L h (some (recount n c)) (L .free) (L .filled))
+
+unfoldable pub ledgerChange : Ledger → ℕ → ℤ → Option Chain → Answer × Ledger
+ledgerChange L h d none = (refusal 8, L)
+ledgerChange L h d (some c) = ledgerCounted L h c (newCount (c .count) d)
+
+-- the head whose chain a call may change: only this chain's slots, and free or unused ones, are written
+unfoldable pub target : Settings → Call → Ledger → ℕ
+target s (Insert k c m) L = headD (newSlots [] (L .free) (L .filled) (length (pieces s (prefix s k ++ c)))) 0
+target s (Replace k c m h) L = h
+target s (Remove h) L = h
+target s (Change d h) L = h
+target s (Read k h out) L = 0
+target s (ReadFixed k h) L = 0
+target s (FindFixed k h) L = 0
+target s FreeCount L = 0
+
+-- the tests of a read on a ledger
+abbrev pub ledgerReadTests : Settings → Option (List ℕ) → ℕ → Ledger → List ℕ
+ledgerReadTests s k h L = checkedKeyTest s k ∷ chainTest L h ∷ ledgerKeyTest s k (L .chains h) ∷ []
+
+-- the fixed read and its companion on a ledger
+unfoldable pub ledgerLook : Settings → Option (List ℕ) → ℕ → Ledger → Answer × List ℕ
+ledgerLook s k h L = unlessStep (first (refuse 1 (s .multipart) ∷ ledgerReadTests s k h L)) [] (foundIn (L .chains h), contentIn (L .chains h))
+
+-- a call on a ledger; cap is the table's capacity. 1, 2, 3, 9, 10 and 11 cannot occur: the table is sound
+unfoldable pub ledgerStep : Settings → ℕ → Call → Ledger → Outcome Ledger
+ledgerStep s cap (Insert k c m) L =
+    let n = length (pieces s (prefix s k ++ c)) in
+    let new = newSlots [] (L .free) (L .filled) n in
+    let out : Answer × Ledger =
+    (at (headD new 0), withChain L (headD new 0) (newChain s k c m new) (freeAfter [] (L .free) n) (filledAfter [] (L .free) (L .filled) n)) in
+    wrote (unlessStep (first (keyTest s k ∷ valueTest s c ∷ roomTest cap (L .filled) (L .free) n ∷ [])) L out)
+ledgerStep s cap (Replace k c m h) L =
+    let n = length (pieces s (prefix s k ++ c)) in
+    let old = slotsIn (L .chains h) in
+    let new = newSlots old (L .free) (L .filled) n in
+    let out : Answer × Ledger =
+    (accepted, withChain L h (newChain s k c m new) (freeAfter old (L .free) n) (filledAfter old (L .free) (L .filled) n)) in
+    wrote (unlessStep (first (keyTest s k ∷ valueTest s c ∷ chainTest L h ∷ roomTest cap (L .filled) (L .free) (n - length old) ∷ [])) L out)
+ledgerStep s cap (Remove h) L =
+    let old = slotsIn (L .chains h) in
+    let out : Answer × Ledger = (accepted, withChain L h none (freeAfter old (L .free) 0) (filledAfter old (L .free) (L .filled) 0)) in
+    wrote (unlessStep (chainTest L h) L out)
+ledgerStep s cap (Change d h) L = wrote (unlessStep (first (uncountedTest s ∷ chainTest L h ∷ [])) L (ledgerChange L h d (L .chains h)))
+ledgerStep s cap (Read k h out) L =
+    let answer : Answer × List ℕ = (foundIn (L .chains h), over (contentIn (L .chains h)) out) in
+    told L (unlessStep (first (ledgerReadTests s k h L ++ (outputTest (contentIn (L .chains h)) out ∷ []))) out answer)
+ledgerStep s cap (ReadFixed k h) L = told L (content (ledgerLook s k h L .1), [])
+ledgerStep s cap (FindFixed k h) L = told L (ledgerLook s k h L .0, [])
+ledgerStep s cap FreeCount L = told L (members (length (L .free)), [])

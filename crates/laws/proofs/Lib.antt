@@ -1,0 +1,20 @@
+-- From the general to the particular: conditions, lists, bytes, stores into bytes, slots; counting; the walks; parts; the one effect.
+pub mod Conditions
+pub mod Tests
+pub mod Lists
+pub mod Bytes
+pub mod Puts
+pub mod Views
+pub mod Counting
+pub mod Stores
+pub mod FreeLists
+pub mod Marks
+pub mod Turns
+pub mod Chains
+pub mod Sizes
+pub mod Overheads
+pub mod Parts
+pub mod NewChains
+pub mod Fitting
+pub mod Distinct
+pub mod Steps

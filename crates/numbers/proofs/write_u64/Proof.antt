@@ -1,0 +1,40 @@
+use denote.Ref.{now}
+use native.Mathlib.Omega.{arith}
+use borrow.Author.Needs.{needs}
+use Rattle.laws.proofs.Puts.{put-halves}
+use Rattle.numbers.proofs.write_u64.Statement.{statement}
+use Rattle.numbers.proofs.write_u64.Tie as tie
+
+cast-write-u32 : tie.Need-cast-write-u32
+cast-write-u32 c = search needs
+
+write-u32-requires : tie.Need-write-u32-requires
+write-u32-requires c κs = search needs
+
+add-write-u32 : tie.Need-add-write-u32
+add-write-u32 c = search needs
+
+cast-write-u32-2 : tie.Need-cast-write-u32-2
+cast-write-u32-2 c = search needs
+
+write-u32-requires-2 : tie.Need-write-u32-requires-2
+write-u32-requires-2 c κs = search needs
+
+same-length : tie.Need-same-length
+same-length c = search needs
+
+returns : tie.Need-returns
+returns c =
+    cc (c .before .before .before .before .before .before .write-u32 .ensures, c .before .before .write-u322 .ensures, put-halves 4 (now (c .before .before .before .before .before .before .before .before .before .args .s)) (c .before .before .before .before .before .before .before .before .before .args .at) (c .before .before .before .before .before .before .before .before .before .args .n) (omega (arith, c .before .before .before .before .before .before .before .before .before .pre)))
+
+pub write-u64-spec : {M : Type 1} → statement M
+write-u64-spec =
+    tie.close
+    (tie.spec
+    cast-write-u32
+    write-u32-requires
+    add-write-u32
+    cast-write-u32-2
+    write-u32-requires-2
+    same-length
+    returns)

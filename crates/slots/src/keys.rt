@@ -1,0 +1,77 @@
+// The partial key, bytes 6 to 31 of the 32-byte hash: compared with the one in a slot, and written after the count.
+use definition::Settings;
+use numbers::read_u16;
+use numbers::read_u64;
+use numbers::write_u32;
+ghost use mathlib.Core.Path.{_≡_};
+ghost use mathlib.Core.Bool.{false, cond};
+ghost use mathlib.Core.Option.{none, some};
+ghost use Prim.Native.Nat.{_+_, _≤_};
+ghost use lib.ListN.{length, take, drop};
+ghost use Rattle.definition.specs.Numbers.{sameBytes};
+ghost use Rattle.definition.specs.Settings.{badSettings, prefixLen};
+ghost use Rattle.definition.specs.Slots.{partialKey};
+ghost use Rattle.definition.specs.Chains.{keyDiffers};
+ghost use Rattle.definition.specs.Parts.{prefix};
+ghost use Rattle.definition.specs.Calls.{keyTest, checkedKeyTest, checkedKey};
+
+// Whether the 26 bytes of the slot at place `at` are the key's bytes 6 to 31. By words: three of eight bytes and one of two.
+fn same_key(slot: &[u8], at: usize, key: &[u8]) -> bool
+    requires { ⌜ (at + 26 ≤ length (now slot)) × (length (now key) ≡ 32) ⌝ }
+    ensures { λ r. ⌜ r ≡ sameBytes (take 26 (drop at (now (slot .entry)))) (partialKey (now (key .entry))) ⌝ }
+{
+    if read_u64(slot, at) != read_u64(key, 6) {
+        return false;
+    }
+    if read_u64(slot, at + 8) != read_u64(key, 14) {
+        return false;
+    }
+    if read_u64(slot, at + 16) != read_u64(key, 22) {
+        return false;
+    }
+    if read_u16(slot, at + 24) != read_u16(key, 30) {
+        return false;
+    }
+    true
+}
+
+// Whether the key that is checked, if one is, differs from the one in the slot. An unkeyed table ignores it.
+pub fn key_differs(slot: &[u8], s: Settings, checked: bool, key: &[u8]) -> bool
+    requires { ⌜ (badSettings s ≡ false) × (length (now slot) ≡ s .size) × (checkedKeyTest s (checkedKey checked (now key)) ≡ 0) ⌝ }
+    ensures { λ r. ⌜ r ≡ keyDiffers s (checkedKey checked (now (key .entry))) (now (slot .entry)) ⌝ }
+{
+    if !checked {
+        return false;
+    }
+    if !s.keyed {
+        return false;
+    }
+    let at = crate::settings::start_overhead(s) + crate::settings::count_len(s);
+    !same_key(slot, at, key)
+}
+
+// Writes the prefix of a new record, a count of 1 and the partial key, at the front of a buffer, and answers its length.
+pub fn write_prefix(buf: &mut [u8], s: Settings, key: &[u8]) -> usize
+    requires { ⌜ (length (now buf) ≡ 30) × (keyTest s (now key) ≡ 0) ⌝ }
+    ensures { λ r. ⌜ (take r (now (buf .exit)) ≡ prefix s (now (key .entry))) × (r ≡ prefixLen s) ⌝ }
+{
+    if s.counted {
+        write_u32(buf, 0, 1);
+        if s.keyed {
+            numbers::copy(
+                key,
+                definition::KEY_SKIP,
+                definition::PARTIAL_SIZE,
+                buf,
+                definition::REFS_SIZE,
+            );
+            return definition::REFS_SIZE + definition::PARTIAL_SIZE;
+        }
+        return definition::REFS_SIZE;
+    }
+    if s.keyed {
+        numbers::copy(key, definition::KEY_SKIP, definition::PARTIAL_SIZE, buf, 0);
+        return definition::PARTIAL_SIZE;
+    }
+    0
+}
