@@ -127,9 +127,9 @@ remove s h t =
 abbrev pub locked : ℕ
 locked = 0xffff_ffff
 
--- m taken off: a locked count stays; `none` where nothing is left
+-- m taken off: a locked count stays (four bytes spell no more than the lock); `none` where nothing is left
 unfoldable pub lowered : ℕ → ℕ → Option ℕ
-lowered c m = cond (eqb c locked) (some locked) (cond (leb c m) none (some (c - m)))
+lowered c m = cond (leb locked c) (some locked) (cond (leb c m) none (some (c - m)))
 
 -- a positive step adds, stopping at the lock; a zero or negative one takes its magnitude off. negsuc n is the step -(n + 1)
 unfoldable pub newCount : ℕ → ℤ → Option ℕ

@@ -5,7 +5,6 @@ use mathlib.Core.Path.{_≡_, refl, sym, ap, _∙_, subst}
 use mathlib.Core.Logic.{_≢_}
 use Prim.Native.Nat.{ℕ, zero, suc, _-_, _≤_, _<_}
 use native.Mathlib.Omega.{arith}
-use native.Mathlib.Decide.{decLt}
 use mathlib.Core.Bool.{Bool, true, false, cond, _||_, not}
 use mathlib.Core.List.{List, [], _∷_}
 use mathlib.Core.Option.{none}
@@ -17,11 +16,11 @@ use Rattle.definition.specs.Settings.{wordBytes, largestSize}
 use Rattle.definition.specs.Slots.{View, isFree, isContinuation, isHead, sizeOf, linkOf, headLink, starts, markOf}
 use Rattle.definition.specs.Chains.{headFault, lastFault, Walk, whole, stopped, passed, partsFrom, restBody, bodyOf, contentOf, totalGood, withTotal, walk}
 use Rattle.definition.specs.Sound.{occ}
-use Rattle.laws.proofs.Conditions.{by-order, which, Which, isYes, isNo, or-no}
+use Rattle.laws.proofs.Conditions.{by-order, or-no}
 use Rattle.laws.proofs.Tests.{refuse-no, first-pass, first-skip, first-one, passed as unrefused}
 use Rattle.laws.proofs.Counting.{hit-other, mem-head, mem-tail, In, in-nil, in-cons}
 use Rattle.laws.proofs.Marks.{small-no-mark, continuation-not-free, continuation-not-head, starts-multi}
-use Rattle.laws.proofs.Turns.{last-small, part-limit, part-unlinked, part-above, part-marked, part-next, part-refused, part-last}
+use Rattle.laws.proofs.Turns.{last-small, part-limit, part-next, part-last, Turn, broken, judged, goesOn, ends, turn}
 
 -- from slot a the links lead over the later parts l: continuations, then a last part that passes its judge
 abbrev pub RestAt : Settings → View → ℕ → Bool → Bool → ℕ → List ℕ → Type 0
@@ -82,27 +81,16 @@ rest-cons s f F mark after a (y ∷ l) p q c r = (refl, p, q, c, r)
 
 rest-walk : (s : Settings) (f : View) (F : ℕ) (mark after : Bool) (n a : ℕ) → Walked s f F mark after n a (partsFrom s f F mark after n a)
 rest-walk s f F mark after zero a = halted s f F mark after 0 a 9 _ (part-limit s f F mark after a)
-rest-walk s f F mark after (suc n) a = start (decLt 0 a) (decLt a F) (rest-walk s f F mark false n (linkOf (f a)))
+rest-walk s f F mark after (suc n) a = go (turn s f F mark after n a) (rest-walk s f F mark false n (linkOf (f a)))
   where
-    judge : (k : ℕ) → lastFault s mark after (f a) ≡ k → 0 < a → a < F → (isFree (f a) || isHead (f a)) ≡ false → isContinuation (f a) ≡ false
+    go : Turn s f F mark after n a → Walked s f F mark false n (linkOf (f a)) (partsFrom s f F mark false n (linkOf (f a)))
         → Walked s f F mark after (suc n) a (partsFrom s f F mark after (suc n) a)
-    judge zero l p q m c = subst (Walked s f F mark after (suc n) a) (sym (part-last s f F mark after n a p q m c l)) (λ z. ((refl, p, q, l), omega arith))
-    judge (suc k) l p q m c = halted s f F mark after (suc n) a k _ (part-refused s f F mark after n a p q m k c l)
-
-    look : 0 < a → a < F → Which (isFree (f a) || isHead (f a)) → Which (isContinuation (f a))
-        → Walked s f F mark false n (linkOf (f a)) (partsFrom s f F mark false n (linkOf (f a)))
-        → Walked s f F mark after (suc n) a (partsFrom s f F mark after (suc n) a)
-    look p q (isYes m) c more = halted s f F mark after (suc n) a 9 _ (part-marked s f F mark after n a p q m)
-    look p q (isNo m) (isYes c) more =
-        subst (Walked s f F mark after (suc n) a) (sym (part-next s f F mark after n a p q m c))
+    go (broken e) more = halted s f F mark after (suc n) a 9 _ e
+    go (judged k l e) more = halted s f F mark after (suc n) a k _ e
+    go (goesOn p q c e) more =
+        subst (Walked s f F mark after (suc n) a) (sym e)
         (λ z. let r = more z in (rest-cons s f F mark after a (partsFrom s f F mark false n (linkOf (f a)) .slots) p q c (r .0), omega (arith, r .1)))
-    look p q (isNo m) (isNo c) more = judge (lastFault s mark after (f a)) refl p q m c
-
-    start : Dec (0 < a) → Dec (a < F) → Walked s f F mark false n (linkOf (f a)) (partsFrom s f F mark false n (linkOf (f a)))
-        → Walked s f F mark after (suc n) a (partsFrom s f F mark after (suc n) a)
-    start (no p) q more = halted s f F mark after (suc n) a 9 _ (part-unlinked s f F mark after n a (omega arith))
-    start (yes p) (no q) more = halted s f F mark after (suc n) a 9 _ (part-above s f F mark after n a (omega arith))
-    start (yes p) (yes q) more = look p q (which (isFree (f a) || isHead (f a))) (which (isContinuation (f a))) more
+    go (ends p q l e) more = subst (Walked s f F mark after (suc n) a) (sym e) (λ z. ((refl, p, q, l), omega arith))
 
 walk-tail : (m : Bool) (s : Settings) (f : View) (F h : ℕ) (w : Walk) → 1 < F
     → w ≡ cond m (withTotal s f h (partsFrom s f F (markOf s (f h)) true (F - 2) (headLink s (f h)))) (whole (h ∷ [])) → w .fault ≡ 0

@@ -87,11 +87,15 @@ in-head F x l h = h x (mem-head x l)
 pub in-tail : (F x : ℕ) (l : List ℕ) → In F (x ∷ l) → In F l
 in-tail F x l h i k = h i (mem-tail i x l k)
 
+-- a count that is not above 0 is 0
+pub zero-unless : (n : ℕ) → (0 < n → ⊥) → n ≡ 0
+zero-unless n h = by-order 0 n (λ b. absurd (omega arith)) (λ e. e) (λ b. absurd (h b))
+
 pub in-zero : (F : ℕ) (l : List ℕ) → In F l → occ 0 l ≡ 0
-in-zero F l h = by-order 0 (occ 0 l) (λ b. absurd (omega arith)) (λ e. e) (λ b. absurd (omega (arith, h 0 b .0)))
+in-zero F l h = zero-unless (occ 0 l) (λ b. omega (arith, h 0 b .0))
 
 pub in-above : (F : ℕ) (l : List ℕ) → In F l → (i : ℕ) → F ≤ i → occ i l ≡ 0
-in-above F l h i b = by-order 0 (occ i l) (λ c. absurd (omega arith)) (λ e. e) (λ c. absurd (omega (arith, h i c .1)))
+in-above F l h i b = zero-unless (occ i l) (λ c. omega (arith, h i c .1))
 
 -- ---- slots from n up
 

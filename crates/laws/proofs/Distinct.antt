@@ -14,7 +14,7 @@ use Rattle.definition.specs.Settings.{largestSize}
 use Rattle.definition.specs.Slots.{View, isFree, isContinuation, isHead, linkOf, headLink, starts, markOf}
 use Rattle.definition.specs.Chains.{lastFault}
 use Rattle.definition.specs.Effect.{newSlots, freeAfter, filledAfter, effect}
-use Rattle.definition.specs.Sound.{occ}
+use Rattle.definition.specs.Sound.{hit, occ}
 use Rattle.laws.proofs.Conditions.{by-order, yes-no}
 use Rattle.laws.proofs.Counting.{hit-same, hit-other, In, in-zero, in-above, occ-range-in, occ-range-below, occ-range-above}
 use Rattle.laws.proofs.Stores.{slotsOf, header-slots, occ-freeAfter, effect-owns, effect-slots}
@@ -174,28 +174,38 @@ module _ (old free : List ℕ) (F n : ℕ) (pos : 0 < F) (io : In F old) (fi : I
       none : (j : ℕ) → F ≤ j → occ j old + occ j free ≡ 0
       none j b = omega (arith, in-above F old io j b, in-above F free fi j b)
 
+  taken-zero : occ 0 (freeAfter old free n) + occ 0 (newSlots old free F n) ≡ 0
+  taken-zero = omega (arith, effect-owns old free F n 0, in-zero F old io, in-zero F free fi, occ-range-below 0 F (n - length old - length free) pos)
+
+  taken-above : (i : ℕ) → F + (n - length old - length free) ≤ i → occ i (freeAfter old free n) + occ i (newSlots old free F n) ≡ 0
+  taken-above i b =
+      omega (
+        arith,
+        effect-owns old free F n i,
+        in-above F old io i (omega arith),
+        in-above F free fi i (omega arith),
+        occ-range-above i F (n - length old - length free) b,
+      )
+
   -- and lies from 1 up to FILLED afterwards
   pub taken-in : (i : ℕ) → 0 < occ i (freeAfter old free n) + occ i (newSlots old free F n) → (0 < i) × (i < filledAfter old free F n)
   unfolding filledAfter
-  taken-in i h = (by-order 0 i (λ b. absurd (omega arith)) (λ (e : i ≡ 0). absurd (omega (arith, zero-out, ap (λ (j : ℕ). occ j (freeAfter old free n) + occ j (newSlots old free F n)) e))) (λ b. b), top)
-    where
-      zero-out : occ 0 (freeAfter old free n) + occ 0 (newSlots old free F n) ≡ 0
-      zero-out = omega (arith, effect-owns old free F n 0, in-zero F old io, in-zero F free fi, occ-range-below 0 F (n - length old - length free) pos)
-
-      top : i < F + (n - length old - length free)
-      top = elim (decLt i (F + (n - length old - length free))) [
-        | yes r ↦ r
-        | no r ↦ absurd (omega (arith, effect-owns old free F n i, in-above F old io i (omega arith), in-above F free fi i (omega arith), occ-range-above i F (n - length old - length free) (omega arith)))
-      ]
+  taken-in i h = (
+    elim (decLt 0 i) [ yes p ↦ p | no p ↦ (let e : i ≡ 0 = omega arith in absurd (omega (arith, taken-zero, rw e at h))) ],
+    elim (decLt i (F + (n - length old - length free))) [ yes p ↦ p | no p ↦ absurd (omega (arith, taken-above i (omega arith))) ],
+  )
 
 -- the stores name distinct slots
 pub effect-distinct : (s : Settings) (mark : Bool) (total F : ℕ) (old free : List ℕ) (ps : List (List ℕ)) → 0 < F → In F old → In F free → Apart old free
     → (i : ℕ) → occ i (slotsOf (effect s mark total ps old free F)) ≤ 1
 effect-distinct s mark total F old free ps pos io fi once i =
+    let n : ℕ = length ps in
+    let split = effect-slots s mark total F old free ps i in
+    let header = header-slots old free F n i in
+    let left = occ-freeAfter old free F n i in
     by-order 0 i (λ b. absurd (omega arith))
-    (λ (e : i ≡ 0). rw e (omega (arith, effect-slots s mark total F old free ps 0, header-slots old free F (length ps) 0, hit-same 0, occ-freeAfter old free F (length ps) 0, zero-out)))
-    (λ (b : 0 < i). omega (arith, effect-slots s mark total F old free ps i, header-slots old free F (length ps) i, hit-other i 0 (omega arith), occ-freeAfter old free F (length ps) i, taken-once old free F (length ps) pos io fi once i))
+    (λ (e : i ≡ 0). omega (arith, hit-zero e, rw (← e) at (taken-zero old free F n pos io fi once)))
+    (λ (b : 0 < i). omega (arith, hit-other i 0 (omega arith), taken-once old free F n pos io fi once i))
   where
-    zero-out : occ 0 (freeAfter old free (length ps)) + occ 0 (newSlots old free F (length ps)) ≡ 0
-    zero-out = by-order 0 (occ 0 (freeAfter old free (length ps)) + occ 0 (newSlots old free F (length ps)))
-        (λ b. absurd (omega arith)) (λ e. e) (λ b. absurd (omega (arith, taken-in old free F (length ps) pos io fi once 0 b .0)))
+    hit-zero : i ≡ 0 → hit i 0 ≡ 1
+    hit-zero e = rw e (hit-same 0)

@@ -18,3 +18,4 @@ pub mod NewChains
 pub mod Fitting
 pub mod Distinct
 pub mod Steps
+pub mod Counts

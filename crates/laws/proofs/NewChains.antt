@@ -55,12 +55,13 @@ pieces-cut s key content z k v = go (which (s .multipart))
 
     go : Which (s .multipart) → Cut s (pieces s body) × (join (pieces s body) ≡ body)
     go (isYes m) =
-        let big = multi-fits s content v m in
-        let o = overhead-bounds s in
-        let r = cutRest-joins (s .size) (length body) (drop (s .size - headOverhead s) body) (omega (arith, z .least)) (rw length-drop (omega arith)) in
+        let E : ℕ = s .size in
+        let front : ℕ = E - headOverhead s in
+        let r = cutRest-joins E (length body) (drop front body) (omega (arith, z .least)) (rw length-drop (omega arith)) in
+        let full : length (take front body) ≡ front = length-take-le front body (omega (arith, long, multi-fits s content v m, overhead-bounds s .0)) in
         rw (pieces-multi s body m) (
-          cut-multi s (take (s .size - headOverhead s) body) (cutRest (s .size) (length body) (drop (s .size - headOverhead s) body)) m (length-take-le (s .size - headOverhead s) body (omega (arith, long, big, o .0))) (r .0),
-          ap (λ (l : List ℕ). take (s .size - headOverhead s) body ++ l) (r .1) ∙ take-append-drop (s .size - headOverhead s) body,
+          cut-multi s (take front body) (cutRest E (length body) (drop front body)) m full (r .0),
+          ap (λ (l : List ℕ). take front body ++ l) (r .1) ∙ take-append-drop front body,
         )
     go (isNo m) = rw (pieces-fixed s body m) ((m, omega (arith, long, fixed-fits s content v m)), append-nil body)
 

@@ -4,6 +4,7 @@ use mathlib.Core.Path.{_≡_, refl, ap, _∙_}
 use mathlib.Core.Logic.{_≢_}
 use Prim.Native.Nat.{ℕ, zero, suc, _-_, _≤_, _<_}
 use native.Mathlib.Omega.{arith}
+use native.Mathlib.Decide.{decLt}
 use mathlib.Core.Bool.{Bool, true, false, _&&_, _||_}
 use mathlib.Core.List.{List, [], _∷_}
 use mathlib.Core.Option.{none, some}
@@ -15,7 +16,7 @@ use Rattle.definition.specs.Settings.{wordBytes}
 use Rattle.definition.specs.Slots.{View, isFree, isContinuation, isHead, sizeOf, linkOf}
 use Rattle.definition.specs.FreeList.{push, freeFrom}
 use Rattle.definition.specs.Chains.{Parse, part, unlessRefused, lastFault, laterParse, stopped, whole, passed, isLast, onward, partsFrom}
-use Rattle.laws.proofs.Conditions.{cond-yes, cond-no, or-left, or-right, or-no, and-yes, and-left, and-right}
+use Rattle.laws.proofs.Conditions.{cond-yes, cond-no, which, Which, isYes, isNo, or-left, or-right, or-no, and-yes, and-left, and-right}
 use Rattle.laws.proofs.Tests.{refuse-yes, refuse-no, passed as unrefused}
 
 -- ---- the free list
@@ -94,17 +95,44 @@ module _ (s : Settings) (f : View) (F : ℕ) (mark after : Bool) where
           part-at ∙ ap (λ (r : Parse). onward a r (partsFrom s f F mark false n (linkOf (f a))))
           (cond-no (isFree (f a) || isHead (f a)) _ _ m ∙ cond-yes (isContinuation (f a)) _ _ c)
 
-      judged : (k : ℕ) → isContinuation (f a) ≡ false → lastFault s mark after (f a) ≡ k
+      unless-last : (k : ℕ) → isContinuation (f a) ≡ false → lastFault s mark after (f a) ≡ k
           → partsFrom s f F mark after (suc n) a ≡ onward a (unlessRefused k (part (Last 0) (sizeOf (f a)))) (partsFrom s f F mark false n (linkOf (f a)))
       unfolding laterParse
-      judged k c l =
+      unless-last k c l =
           part-at ∙ ap (λ (r : Parse). onward a r (partsFrom s f F mark false n (linkOf (f a))))
           (cond-no (isFree (f a) || isHead (f a)) _ _ m ∙ cond-no (isContinuation (f a)) _ _ c ∙ ap (λ (j : ℕ). unlessRefused j (part (Last 0) (sizeOf (f a)))) l)
 
       pub part-refused : (k : ℕ) → isContinuation (f a) ≡ false → lastFault s mark after (f a) ≡ suc k → partsFrom s f F mark after (suc n) a ≡ stopped (suc k)
       unfolding onward unlessRefused
-      part-refused k c l = judged (suc k) c l
+      part-refused k c l = unless-last (suc k) c l
 
       pub part-last : isContinuation (f a) ≡ false → lastFault s mark after (f a) ≡ 0 → partsFrom s f F mark after (suc n) a ≡ whole (a ∷ [])
       unfolding onward unlessRefused isLast
-      part-last c l = judged 0 c l
+      part-last c l = unless-last 0 c l
+
+-- ---- one turn in all
+
+-- what one turn over the later parts comes to: a link or mark at fault, a last part that its judge refuses, a continuation, a last part
+pub data Turn (s : Settings) (f : View) (F : ℕ) (mark after : Bool) (n a : ℕ) : Type 0 where
+  broken : partsFrom s f F mark after (suc n) a ≡ stopped 10 → Turn s f F mark after n a
+  judged : (k : ℕ) → lastFault s mark after (f a) ≡ suc k → partsFrom s f F mark after (suc n) a ≡ stopped (suc k) → Turn s f F mark after n a
+  goesOn : 0 < a → a < F → isContinuation (f a) ≡ true → partsFrom s f F mark after (suc n) a ≡ passed a (partsFrom s f F mark false n (linkOf (f a)))
+      → Turn s f F mark after n a
+  ends : 0 < a → a < F → lastFault s mark after (f a) ≡ 0 → partsFrom s f F mark after (suc n) a ≡ whole (a ∷ []) → Turn s f F mark after n a
+
+pub turn : (s : Settings) (f : View) (F : ℕ) (mark after : Bool) (n a : ℕ) → Turn s f F mark after n a
+turn s f F mark after n a = start (decLt 0 a) (decLt a F)
+  where
+    last : (k : ℕ) → lastFault s mark after (f a) ≡ k → 0 < a → a < F → (isFree (f a) || isHead (f a)) ≡ false → isContinuation (f a) ≡ false → Turn s f F mark after n a
+    last zero l p q m c = ends p q l (part-last s f F mark after n a p q m c l)
+    last (suc k) l p q m c = judged k l (part-refused s f F mark after n a p q m k c l)
+
+    look : 0 < a → a < F → Which (isFree (f a) || isHead (f a)) → Which (isContinuation (f a)) → Turn s f F mark after n a
+    look p q (isYes m) c = broken (part-marked s f F mark after n a p q m)
+    look p q (isNo m) (isYes c) = goesOn p q c (part-next s f F mark after n a p q m c)
+    look p q (isNo m) (isNo c) = last (lastFault s mark after (f a)) refl p q m c
+
+    start : Dec (0 < a) → Dec (a < F) → Turn s f F mark after n a
+    start (no p) q = broken (part-unlinked s f F mark after n a (omega arith))
+    start (yes p) (no q) = broken (part-above s f F mark after n a (omega arith))
+    start (yes p) (yes q) = look p q (which (isFree (f a) || isHead (f a))) (which (isContinuation (f a)))

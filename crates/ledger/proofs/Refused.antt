@@ -1,0 +1,78 @@
+-- Refused: on any table, sound or not, a refused call leaves the table and the output as they were and answers its number, all else empty
+-- (`refused-leaves`). One statement over all calls. The fixed read hands back a part of the table and no number: it is refused where its
+-- companion is, and then the part is empty.
+use mathlib.Core.Path.{_≡_, ap}
+use Prim.Native.Nat.{ℕ, zero, suc, _<_}
+use native.Mathlib.Omega.{arith}
+use mathlib.Core.Bool.{Bool}
+use mathlib.Core.List.{List, []}
+use mathlib.Core.Option.{Option, none, some}
+use Rattle.definition.specs.declared.Settings.{Settings}
+use Rattle.definition.specs.Answers.{Answer, refusal, at, accepted, found, content, members}
+use Rattle.definition.specs.Calls.{unless, insert, replace, remove, counted, change, read, lookFixed, readFixed, findFixed, freeCount}
+use Rattle.definition.specs.Ledger.{Call, Insert, Replace, Remove, Change, Read, ReadFixed, FindFixed, FreeCount, Outcome, wrote, told}
+use Rattle.definition.specs.Run.{run}
+
+-- the call that tells a call's refusal: the call itself, for the fixed read its companion
+unfoldable pub teller : Call → Call
+teller (Insert k c m) = Insert k c m
+teller (Replace k c m h) = Replace k c m h
+teller (Remove h) = Remove h
+teller (Change d h) = Change d h
+teller (Read k h out) = Read k h out
+teller (ReadFixed k h) = FindFixed k h
+teller (FindFixed k h) = FindFixed k h
+teller FreeCount = FreeCount
+
+-- what a call refused with n leaves of the table t: the number, the table, and the output that was lent, if one was
+unfoldable pub refusedWith : ℕ → Call → List ℕ → Outcome (List ℕ)
+refusedWith n (Insert k c m) t = record { answer = refusal n; after = t; output = [] }
+refusedWith n (Replace k c m h) t = record { answer = refusal n; after = t; output = [] }
+refusedWith n (Remove h) t = record { answer = refusal n; after = t; output = [] }
+refusedWith n (Change d h) t = record { answer = refusal n; after = t; output = [] }
+refusedWith n (Read k h out) t = record { answer = refusal n; after = t; output = out }
+refusedWith n (ReadFixed k h) t = record { answer = content []; after = t; output = [] }
+refusedWith n (FindFixed k h) t = record { answer = refusal n; after = t; output = [] }
+refusedWith n FreeCount t = record { answer = refusal n; after = t; output = [] }
+
+-- ---- refused where a test refuses
+
+-- an answer that is no refusal
+abbrev pub Granted : Answer → Type 0
+Granted a = (n : ℕ) → a ≡ refusal n → ⊥
+
+-- where a call answers a refusal, its tests gave that number, and what was there stays
+pub unless-refused : (m : ℕ) (old : List ℕ) (out : Answer × List ℕ) (n : ℕ) → Granted (out .0) → unless m old out .0 ≡ refusal n
+    → (unless m old out ≡ (refusal n, old)) × (m ≡ n) × (0 < n)
+unfolding unless
+unless-refused zero old out n g e = absurd (g n e)
+unless-refused (suc m) old out n g e = let q : suc m ≡ n = cc in (ap (λ (a : Answer). (a, old)) e, q, omega arith)
+
+pub at-granted : (h : ℕ) → Granted (at h)
+at-granted h n e = let z : _≡_ {A = ℕ} 0 1 = cc in omega arith
+
+pub accepted-granted : Granted accepted
+accepted-granted n e = let z : _≡_ {A = ℕ} 0 1 = cc in omega arith
+
+pub counted-granted : (s : Settings) (h : ℕ) (t : List ℕ) (o : Option ℕ) → Granted (counted s h t o .0)
+unfolding counted
+counted-granted s h t none n e = let z : _≡_ {A = ℕ} 0 1 = cc in omega arith
+counted-granted s h t (some c) n e = let z : _≡_ {A = ℕ} 0 1 = cc in omega arith
+
+pub found-granted : (len : ℕ) (mark : Bool) (c visits : ℕ) → Granted (found len mark c visits)
+found-granted len mark c visits n e = let z : _≡_ {A = ℕ} 0 1 = cc in omega arith
+
+pub members-granted : (m : ℕ) → Granted (members m)
+members-granted m n e = let z : _≡_ {A = ℕ} 0 1 = cc in omega arith
+
+pub refused-leaves : (s : Settings) (c : Call) (t : List ℕ) (n : ℕ) → run s (teller c) t .answer ≡ refusal n
+    → run s c t ≡ refusedWith n c t
+unfolding teller refusedWith run insert replace remove change read readFixed findFixed lookFixed freeCount
+refused-leaves s (Insert k c m) t n e = ap (λ (r : Answer × List ℕ). wrote r) (unless-refused _ t _ n (at-granted _) e .0)
+refused-leaves s (Replace k c m h) t n e = ap (λ (r : Answer × List ℕ). wrote r) (unless-refused _ t _ n accepted-granted e .0)
+refused-leaves s (Remove h) t n e = ap (λ (r : Answer × List ℕ). wrote r) (unless-refused _ t _ n accepted-granted e .0)
+refused-leaves s (Change d h) t n e = ap (λ (r : Answer × List ℕ). wrote r) (unless-refused _ t _ n (counted-granted s h t _) e .0)
+refused-leaves s (Read k h out) t n e = ap (λ (r : Answer × List ℕ). told t r) (unless-refused _ out _ n (found-granted _ _ _ _) e .0)
+refused-leaves s (ReadFixed k h) t n e = ap (λ (r : Answer × List ℕ). told t (content (r .1), [])) (unless-refused _ [] _ n (found-granted _ _ _ _) e .0)
+refused-leaves s (FindFixed k h) t n e = ap (λ (r : Answer × List ℕ). told t (r .0, [])) (unless-refused _ [] _ n (found-granted _ _ _ _) e .0)
+refused-leaves s FreeCount t n e = ap (λ (r : Answer × List ℕ). told t (r .0, [])) (unless-refused _ t _ n (members-granted _) e .0)
