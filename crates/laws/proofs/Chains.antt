@@ -79,7 +79,7 @@ rest-cons : (s : Settings) (f : View) (F : ℕ) (mark after : Bool) (a : ℕ) (l
 rest-cons s f F mark after a [] p q c r = absurd r
 rest-cons s f F mark after a (y ∷ l) p q c r = (refl, p, q, c, r)
 
-rest-walk : (s : Settings) (f : View) (F : ℕ) (mark after : Bool) (n a : ℕ) → Walked s f F mark after n a (partsFrom s f F mark after n a)
+pub rest-walk : (s : Settings) (f : View) (F : ℕ) (mark after : Bool) (n a : ℕ) → Walked s f F mark after n a (partsFrom s f F mark after n a)
 rest-walk s f F mark after zero a = halted s f F mark after 0 a 9 _ (part-limit s f F mark after a)
 rest-walk s f F mark after (suc n) a = go (turn s f F mark after n a) (rest-walk s f F mark false n (linkOf (f a)))
   where

@@ -5,7 +5,7 @@ use mathlib.Core.Bool.{Bool, true, false, cond, _||_}
 use mathlib.Core.List.{List, [], _∷_, _++_}
 use Prim.Native.Nat.{ℕ, zero, suc, _+_, _-_, _*_, _≤_, _<_}
 use native.Mathlib.Omega.{arith}
-use lib.Dec.{eqb, leb}
+use lib.Dec.{eqb}
 use lib.ListN.{length, length-append, length-drop}
 use borrow.Author.Tests.{ne-eqb}
 use Rattle.definition.specs.declared.Settings.{Settings}
@@ -20,6 +20,7 @@ use Rattle.laws.proofs.Tests.{number-some}
 use Rattle.laws.proofs.Lists.{length-part}
 use Rattle.laws.proofs.Views.{apart}
 use Rattle.laws.proofs.Turns.{last-small, part-limit, part-unlinked, part-above, part-at}
+use Rattle.laws.proofs.Chains.{RestAt, rest-walk}
 use Rattle.walks.specs.declared.Extent.{Extent}
 use Rattle.walks.specs.declared.Walked.{Walked}
 use Rattle.walks.specs.Met.{walkedIs, restIs}
@@ -117,28 +118,12 @@ unfolding tally
 passed-tally f n k x w h = tallied-cons f n k x (w .fault) (w .slots) h
 
 -- a walk without fault passed some slot
-ended-some : (x : ℕ) (last : Bool) (rest : Walk) → cond last (whole (x ∷ [])) (passed x rest) .fault ≡ 0 → 0 < length (cond last (whole (x ∷ [])) (passed x rest) .slots)
-ended-some x true rest e = omega arith
-ended-some x false rest e = omega arith
-
-onward-some : (s : Settings) (b : List ℕ) (x : ℕ) (p : Parse) (rest : Walk) → Says s b p → onward x p rest .fault ≡ 0 → 0 < length (onward x p rest .slots)
-unfolding onward
-onward-some s b x (refused n) rest h e = absurd (omega arith)
-onward-some s b x (part k n) rest h e = ended-some x (isLast k) rest e
-
 some-slot : (s : Settings) (f : View) (F : ℕ) (mark after : Bool) (n a : ℕ) → partsFrom s f F mark after n a .fault ≡ 0 → 0 < length (partsFrom s f F mark after n a .slots)
-unfolding partsFrom
-some-slot s f F mark after zero a e = absurd (omega arith)
-some-slot s f F mark after (suc n) a e = go (which (eqb a 0 || leb F a))
+some-slot s f F mark after n a e = go (partsFrom s f F mark after n a .slots) (rest-walk s f F mark after n a e .0)
   where
-    rest : Walk
-    rest = onward a (laterParse s mark after (f a)) (partsFrom s f F mark false n (linkOf (f a)))
-
-    go : Which (eqb a 0 || leb F a) → 0 < length (partsFrom s f F mark after (suc n) a .slots)
-    go (isYes y) = absurd (let z : 10 ≡ 0 = ap (λ (w : Walk). w .fault) (sym (cond-yes (eqb a 0 || leb F a) (stopped 10) rest y)) ∙ e in omega arith)
-    go (isNo y) =
-        let c : partsFrom s f F mark after (suc n) a ≡ rest = cond-no (eqb a 0 || leb F a) (stopped 10) rest y in
-        rw c (onward-some s (f a) a (laterParse s mark after (f a)) (partsFrom s f F mark false n (linkOf (f a))) (says s mark after (f a)) (sym (ap (λ (w : Walk). w .fault) c) ∙ e))
+    go : (l : List ℕ) → RestAt s f F mark after a l → 0 < length l
+    go [] r = absurd r
+    go (x ∷ l) r = omega arith
 
 module _ (s : Settings) (f : View) (F a : ℕ) (mark : Bool) (at n k : ℕ) (c : Tallied s f F a mark at n k) where
   -- the walk stops with this refusal

@@ -1,2 +1,3 @@
 -- What a walk's answer says.
 pub mod Met
+pub mod Spans
