@@ -19,8 +19,8 @@ use Rattle.definition.specs.Run.{chainOn, ledgerView}
 use Rattle.laws.proofs.Conditions.{cond-yes, cond-no, which, Which, isYes, isNo}
 use Rattle.laws.proofs.Tests.{refuse-yes, refuse-no, first-skip, first-stop, first-pass, first-cons, first-one}
 use Rattle.laws.proofs.Chains.{ChainAt, chain-walk}
-use Rattle.ledger.proofs.Owners.{startsAt-in, chainAt-in}
-use Rattle.ledger.proofs.Passed.{slot-passed}
+use Rattle.laws.proofs.Starts.{startsAt-in, chainAt-in}
+use Rattle.laws.proofs.Passed.{slot-passed}
 
 -- ---- the chain at a slot in use: there is none, or it is well formed and the walk finds it
 

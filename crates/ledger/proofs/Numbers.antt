@@ -19,11 +19,11 @@ use Rattle.definition.specs.Sound.{hit, occ}
 use Rattle.definition.specs.Ledger.{Call, Insert, Replace, Remove, Change, Read, ReadFixed, FindFixed, FreeCount}
 use Rattle.definition.specs.Run.{run}
 use Rattle.laws.proofs.Conditions.{which, Which, isYes, isNo}
-use Rattle.laws.proofs.Tests.{refuse-yes, first-stop, first-pass}
+use Rattle.laws.proofs.Tests.{refuse-yes, first-stop, first-pass, first-both}
 use Rattle.laws.proofs.Counting.{hit-other}
 use Rattle.laws.proofs.Chains.{ChainAt}
 use Rattle.laws.proofs.Turns.{part-limit, Turn, broken, judged, goesOn, ends, turn}
-use Rattle.ledger.proofs.Passed.{first-both, walk-fixed, chain-passed}
+use Rattle.laws.proofs.Passed.{walk-fixed, chain-passed}
 use Rattle.ledger.proofs.Refused.{teller, Granted, unless-refused, answer-alone, at-granted, accepted-granted, counted-granted, found-granted, members-granted}
 
 -- ---- whatever holds of 0 and of the numbers of the tests holds of the first refusal

@@ -16,9 +16,9 @@ use Rattle.definition.specs.Calls.{capacity, checkedKeyTest, outputTest, tableT
 use Rattle.definition.specs.Sound.{chainAt, Sound}
 use Rattle.definition.specs.Ledger.{Read, ReadFixed, FindFixed, FreeCount, told, chainTest, contentIn, foundIn, ledgerLook, ledgerStep}
 use Rattle.definition.specs.Run.{chainOn, ledgerView, ledgerOf}
-use Rattle.laws.proofs.Tests.{passed, first-pass, first-cons}
+use Rattle.laws.proofs.Tests.{passed, first-pass, first-cons, first-past}
 use Rattle.laws.proofs.Chains.{ChainAt}
-use Rattle.ledger.proofs.Passed.{first-past, walk-fixed}
+use Rattle.laws.proofs.Passed.{walk-fixed}
 use Rattle.ledger.proofs.SoundTables.{sound-tests}
 use Rattle.ledger.proofs.Agrees.{Agrees, agree-same, unless-alike}
 use Rattle.ledger.proofs.LedgerTests.{chain-tests, chain-there}
