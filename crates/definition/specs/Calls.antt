@@ -83,12 +83,19 @@ chainTests s f h key = slotTest f h ∷ headFault s key 8 (f h) ∷ walk s f (fi
 abbrev pub roomTests : View → ℕ → ℕ → List ℕ
 roomTests f cap need = freeListTest (freeList f) ∷ roomTest cap (filled f) (membersOf (freeList f)) need ∷ []
 
--- ---- insert, replace and remove
+-- ---- refused or not
 
 -- the answer and what changes, or, where a test refuses, its number and what was there
-unfoldable pub unless : ℕ → List ℕ → Answer × List ℕ → Answer × List ℕ
+unfoldable pub unless : {X : Type 0} → ℕ → X → Answer × X → Answer × X
 unless zero old out = out
 unless (suc n) old out = (refusal (suc n), old)
+
+-- the same of a call that leaves nothing but its answer
+unfoldable pub answerUnless : ℕ → Answer → Answer
+answerUnless zero a = a
+answerUnless (suc n) a = refusal (suc n)
+
+-- ---- insert, replace and remove
 
 -- takes its slots in chain order and answers the head's slot
 unfoldable pub insert : Settings → List ℕ → List ℕ → Bool → List ℕ → Answer × List ℕ
@@ -193,5 +200,4 @@ findFixed s key h t = lookFixed s key h t .0
 unfoldable pub freeCount : Settings → List ℕ → Answer
 freeCount s t =
     let f = view (s .size) t in
-    let answer : Answer × List ℕ = (members (length (membersOf (freeList f))), t) in
-    unless (first (tableTests s f (capacity s t) ++ (freeListTest (freeList f) ∷ []))) t answer .0
+    answerUnless (first (tableTests s f (capacity s t) ++ (freeListTest (freeList f) ∷ []))) (members (length (membersOf (freeList f))))

@@ -2,7 +2,7 @@
 -- then, in the same way, "Readings that look right and are not", each as the figure that it gets wrong.
 use mathlib.Core.Path.{_≡_, refl}
 use Prim.Native.Nat.{ℕ, zero, suc, _+_, _-_, _*_}
-use mathlib.Core.Bool.{Bool, true, false, _&&_}
+use mathlib.Core.Bool.{Bool, true, false, cond, _&&_}
 use mathlib.Core.List.{List, [], _∷_, _++_, headD}
 use mathlib.Core.Option.{Option, none, some}
 use lib.IntN.{ℤ, pos, negsuc}
@@ -56,7 +56,7 @@ code (at h) = 1 ∷ h ∷ []
 code accepted = 2 ∷ []
 code (count n) = 3 ∷ n ∷ []
 code lastReference = 4 ∷ []
-code (found n m c v) = 5 ∷ n ∷ c ∷ v ∷ []
+code (found n m c v) = 5 ∷ n ∷ cond m 1 0 ∷ c ∷ v ∷ []
 code (content c) = 6 ∷ c
 code (members n) = 7 ∷ n ∷ []
 

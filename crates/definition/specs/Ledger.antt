@@ -1,13 +1,13 @@
 -- The plain ledger of demand 3: chains with slots, key, content, mark and count, the free slots in order, FILLED.
 -- Each call is a step on the ledger alone, which knows no mark of a slot, no link and no offset: of the layout it takes only into
 -- how many parts a content is cut. How a table is read as a ledger is said in Run.
-use Prim.Native.Nat.{ℕ, zero, suc, _+_, _-_}
+use Prim.Native.Nat.{ℕ, _-_}
 use mathlib.Core.Bool.{Bool, cond, _&&_, _||_, not}
 use mathlib.Core.List.{List, [], _∷_, _++_, headD}
 use mathlib.Core.Option.{Option, none, some}
 use lib.IntN.{ℤ}
 use lib.ListN.{length}
-use lib.Dec.{eqb, leb, ltb}
+use lib.Dec.{eqb, leb}
 use Rattle.definition.specs.declared.Settings.{Settings}
 use Rattle.definition.specs.Numbers.{sameBytes, over}
 use Rattle.definition.specs.Tests.{refuse, first}
@@ -15,7 +15,7 @@ use Rattle.definition.specs.Slots.{partialKey}
 use Rattle.definition.specs.Parts.{prefix, pieces}
 use Rattle.definition.specs.Effect.{newSlots, freeAfter, filledAfter}
 use Rattle.definition.specs.Answers.{Answer, refusal, at, accepted, count, lastReference, found, content, members}
-use Rattle.definition.specs.Calls.{newCount, keyTest, checkedKeyTest, uncountedTest, valueTest, roomTest, outputTest}
+use Rattle.definition.specs.Calls.{keyTest, checkedKeyTest, uncountedTest, valueTest, roomTest, outputTest, unless, newCount}
 
 pub record Chain : Type 0 where
   pub slots : List ℕ
@@ -68,18 +68,14 @@ unfoldable pub slotsIn : Option Chain → List ℕ
 slotsIn none = []
 slotsIn (some c) = c .slots
 
--- the step, or, where a test refuses, its number and what was there
-unfoldable pub unlessStep : {X : Type 0} → ℕ → X → Answer × X → Answer × X
-unlessStep zero old out = out
-unlessStep (suc n) old out = (refusal (suc n), old)
+-- 8: no chain starts there
+unfoldable pub absentTest : Option Chain → ℕ
+absentTest none = 8
+absentTest (some c) = 0
 
 -- 7 and 8: the slot is none in use, or no chain starts there
 unfoldable pub chainTest : Ledger → ℕ → ℕ
-chainTest L h = first (refuse 7 (eqb h 0 || leb (L .filled) h) ∷ absent (L .chains h) ∷ [])
-  where
-    absent : Option Chain → ℕ
-    absent none = 8
-    absent (some c) = 0
+chainTest L h = first (refuse 7 (eqb h 0 || leb (L .filled) h) ∷ absentTest (L .chains h) ∷ [])
 
 -- 8: the checked key differs
 unfoldable pub ledgerKeyTest : Settings → Option (List ℕ) → Option Chain → ℕ
@@ -123,7 +119,7 @@ ledgerReadTests s k h L = checkedKeyTest s k ∷ chainTest L h ∷ ledgerKeyTest
 
 -- the fixed read and its companion on a ledger
 unfoldable pub ledgerLook : Settings → Option (List ℕ) → ℕ → Ledger → Answer × List ℕ
-ledgerLook s k h L = unlessStep (first (refuse 1 (s .multipart) ∷ ledgerReadTests s k h L)) [] (foundIn (L .chains h), contentIn (L .chains h))
+ledgerLook s k h L = unless (first (refuse 1 (s .multipart) ∷ ledgerReadTests s k h L)) [] (foundIn (L .chains h), contentIn (L .chains h))
 
 -- a call on a ledger; cap is the table's capacity. 1, 2, 3, 9, 10 and 11 cannot occur: the table is sound
 unfoldable pub ledgerStep : Settings → ℕ → Call → Ledger → Outcome Ledger
@@ -132,22 +128,22 @@ ledgerStep s cap (Insert k c m) L =
     let new = newSlots [] (L .free) (L .filled) n in
     let out : Answer × Ledger =
     (at (headD new 0), withChain L (headD new 0) (newChain s k c m new) (freeAfter [] (L .free) n) (filledAfter [] (L .free) (L .filled) n)) in
-    wrote (unlessStep (first (keyTest s k ∷ valueTest s c ∷ roomTest cap (L .filled) (L .free) n ∷ [])) L out)
+    wrote (unless (first (keyTest s k ∷ valueTest s c ∷ roomTest cap (L .filled) (L .free) n ∷ [])) L out)
 ledgerStep s cap (Replace k c m h) L =
     let n = length (pieces s (prefix s k ++ c)) in
     let old = slotsIn (L .chains h) in
     let new = newSlots old (L .free) (L .filled) n in
     let out : Answer × Ledger =
     (accepted, withChain L h (newChain s k c m new) (freeAfter old (L .free) n) (filledAfter old (L .free) (L .filled) n)) in
-    wrote (unlessStep (first (keyTest s k ∷ valueTest s c ∷ chainTest L h ∷ roomTest cap (L .filled) (L .free) (n - length old) ∷ [])) L out)
+    wrote (unless (first (keyTest s k ∷ valueTest s c ∷ chainTest L h ∷ roomTest cap (L .filled) (L .free) (n - length old) ∷ [])) L out)
 ledgerStep s cap (Remove h) L =
     let old = slotsIn (L .chains h) in
     let out : Answer × Ledger = (accepted, withChain L h none (freeAfter old (L .free) 0) (filledAfter old (L .free) (L .filled) 0)) in
-    wrote (unlessStep (chainTest L h) L out)
-ledgerStep s cap (Change d h) L = wrote (unlessStep (first (uncountedTest s ∷ chainTest L h ∷ [])) L (ledgerChange L h d (L .chains h)))
+    wrote (unless (chainTest L h) L out)
+ledgerStep s cap (Change d h) L = wrote (unless (first (uncountedTest s ∷ chainTest L h ∷ [])) L (ledgerChange L h d (L .chains h)))
 ledgerStep s cap (Read k h out) L =
     let answer : Answer × List ℕ = (foundIn (L .chains h), over (contentIn (L .chains h)) out) in
-    told L (unlessStep (first (ledgerReadTests s k h L ++ (outputTest (contentIn (L .chains h)) out ∷ []))) out answer)
+    told L (unless (first (ledgerReadTests s k h L ++ (outputTest (contentIn (L .chains h)) out ∷ []))) out answer)
 ledgerStep s cap (ReadFixed k h) L = told L (content (ledgerLook s k h L .1), [])
 ledgerStep s cap (FindFixed k h) L = told L (ledgerLook s k h L .0, [])
 ledgerStep s cap FreeCount L = told L (members (length (L .free)), [])

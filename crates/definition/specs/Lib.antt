@@ -1,4 +1,4 @@
--- What every call means, over lists of bytes. Read top to bottom; docs/READING.md is a guide.
+-- What every call means, over lists of bytes. Read top to bottom.
 pub mod Numbers
 pub mod Tests
 pub mod Settings

@@ -1,4 +1,5 @@
--- From the general to the particular: conditions, lists, bytes, stores into bytes, slots; counting; the walks; parts; the one effect.
+-- From the general to the particular: conditions, lists, bytes, stores into bytes, slots; counting; the walks, where chains start and what
+-- passed tests say; parts; the one effect.
 pub mod Conditions
 pub mod Tests
 pub mod Lists
@@ -11,6 +12,8 @@ pub mod FreeLists
 pub mod Marks
 pub mod Turns
 pub mod Chains
+pub mod Starts
+pub mod Passed
 pub mod Sizes
 pub mod Overheads
 pub mod Parts

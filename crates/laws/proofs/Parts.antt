@@ -183,15 +183,6 @@ length-header removed F = refl
 
 -- ---- the prefix read back
 
--- where the prefix begins
-pub start-fixed : (s : Settings) → s .multipart ≡ false → startOverhead s ≡ wordBytes
-unfolding startOverhead
-start-fixed s m = cond-no (s .multipart) (headOverhead s) wordBytes m
-
-pub start-multi : (s : Settings) → s .multipart ≡ true → startOverhead s ≡ headOverhead s
-unfolding startOverhead
-start-multi s m = cond-yes (s .multipart) (headOverhead s) wordBytes m
-
 -- bytes that begin with a prefix hold a count of 1, if any, and the key, if any
 count-read : (c k : Bool) (key b : List ℕ) → take (cond c countBytes 0 + cond k keyBytes 0) b ≡ cond c (bytes countBytes 1) [] ++ cond k key []
     → cond c (le (take countBytes b)) 1 ≡ 1

@@ -1,9 +1,9 @@
 -- An ordered list of tests gives the first refusal: where the tests before one pass and it refuses, its number is the answer, and
 -- where the answer is 0 every test passes.
-use mathlib.Core.Path.{_≡_, refl, sym, ap, _∙_}
+use mathlib.Core.Path.{_≡_, refl, sym, _∙_}
 use mathlib.Core.Bool.{Bool, true, false}
 use mathlib.Core.List.{List, [], _∷_, _++_}
-use Prim.Native.Nat.{ℕ, zero, suc, _+_, _≤_, _<_}
+use Prim.Native.Nat.{ℕ, zero, suc, _<_}
 use native.Mathlib.Omega.{arith}
 use Rattle.definition.specs.declared.Refusal.{Refusal}
 use Rattle.definition.specs.declared.Refusal.the-variants.{Settings, Buffer, Header, Key, Uncounted, Value, Slot, Absent, Size, Chain, FreeList, Room, Output}
@@ -52,6 +52,14 @@ unfolding first
 first-append [] ms = refl
 first-append (zero ∷ ns) ms = first-append ns ms
 first-append (suc n ∷ ns) ms = refl
+
+-- where two lots pass one after another, both do
+pub first-both : (ns ms : List ℕ) → first (ns ++ ms) ≡ 0 → (first ns ≡ 0) × (first ms ≡ 0)
+first-both ns ms e = first-pass (first ns) ms (sym (first-append ns ms) ∙ e)
+
+-- a lot that passes is skipped
+pub first-past : (ns ms : List ℕ) → first ns ≡ 0 → first (ns ++ ms) ≡ first ms
+first-past ns ms e = first-append ns ms ∙ first-skip (first ns) ms e
 
 pub first-one : (a : ℕ) → first (a ∷ []) ≡ a
 unfolding first

@@ -17,7 +17,7 @@ use Rattle.definition.specs.FreeList.{membersOf}
 use Rattle.definition.specs.Answers.{Answer}
 use Rattle.definition.specs.Calls.{capacity, unless}
 use Rattle.definition.specs.Sound.{occ, chainAt, SoundView, Sound}
-use Rattle.definition.specs.Ledger.{Chain, Ledger, Outcome, wrote, told, withChain, newChain, unlessStep}
+use Rattle.definition.specs.Ledger.{Chain, Ledger, Outcome, wrote, told, withChain, newChain}
 use Rattle.definition.specs.Run.{chainOn, ledgerView, ledgerOf}
 use Rattle.laws.proofs.Conditions.{cond-yes, cond-no, by-order}
 use Rattle.laws.proofs.Views.{updAll, Fits, length-store, view-store}
@@ -42,11 +42,11 @@ pub record Agrees (s : Settings) (t : List ℕ) (hd : ℕ) (o : Outcome (List �
 
 -- the same refusal on both sides leaves both as they were
 pub agree-unless : (s : Settings) (t : List ℕ) (hd n m : ℕ) (o : Answer × List ℕ) (l : Answer × Ledger) → n ≡ m → Sound s t
-    → (m ≡ 0 → Agrees s t hd (wrote o) (wrote l)) → Agrees s t hd (wrote (unless n t o)) (wrote (unlessStep m (ledgerOf s t) l))
-unfolding unless unlessStep
-agree-unless s t hd n m o l e k h = subst (λ (j : ℕ). Agrees s t hd (wrote (unless j t o)) (wrote (unlessStep m (ledgerOf s t) l))) (sym e) (go m h)
+    → (m ≡ 0 → Agrees s t hd (wrote o) (wrote l)) → Agrees s t hd (wrote (unless n t o)) (wrote (unless m (ledgerOf s t) l))
+unfolding unless
+agree-unless s t hd n m o l e k h = subst (λ (j : ℕ). Agrees s t hd (wrote (unless j t o)) (wrote (unless m (ledgerOf s t) l))) (sym e) (go m h)
   where
-    go : (j : ℕ) → (j ≡ 0 → Agrees s t hd (wrote o) (wrote l)) → Agrees s t hd (wrote (unless j t o)) (wrote (unlessStep j (ledgerOf s t) l))
+    go : (j : ℕ) → (j ≡ 0 → Agrees s t hd (wrote o) (wrote l)) → Agrees s t hd (wrote (unless j t o)) (wrote (unless j (ledgerOf s t) l))
     go zero g = g refl
     go (suc j) g = record { sound = k; long = refl; answers = refl; ledgers = refl; outputs = refl; keeps = λ x ne i m. refl }
 
@@ -80,8 +80,8 @@ agree-same s t a b k e = record {
 }
 
 -- the same refusal on both sides, or the same answer
-pub unless-alike : (n m : ℕ) (out : List ℕ) (a b : Answer × List ℕ) → n ≡ m → (m ≡ 0 → a ≡ b) → unless n out a ≡ unlessStep m out b
-unfolding unless unlessStep
+pub unless-alike : (n m : ℕ) (out : List ℕ) (a b : Answer × List ℕ) → n ≡ m → (m ≡ 0 → a ≡ b) → unless n out a ≡ unless m out b
+unfolding unless
 unless-alike n zero out a b e h = ap (λ (j : ℕ). unless j out a) e ∙ h refl
 unless-alike n (suc m) out a b e h = ap (λ (j : ℕ). unless j out a) e
 

@@ -24,15 +24,14 @@ use Rattle.definition.specs.Sound.{hit, occ, chainAt, SoundView, Sound}
 use Rattle.definition.specs.Ledger.{Chain, Change, wrote, chainTest, recount, ledgerCounted, ledgerChange, ledgerStep}
 use Rattle.definition.specs.Run.{chainOn, ledgerView, ledgerOf}
 use Rattle.laws.proofs.Conditions.{cond-yes, cond-no, by-order, which, Which, isYes, isNo}
-use Rattle.laws.proofs.Tests.{passed, first-pass, first-cons}
+use Rattle.laws.proofs.Tests.{passed, first-pass, first-cons, first-past}
 use Rattle.laws.proofs.Bytes.{length-bytes}
 use Rattle.laws.proofs.Views.{upd, updAll, upd-same, upd-other}
 use Rattle.laws.proofs.Counting.{hit-same}
 use Rattle.laws.proofs.FreeLists.{free-frame}
 use Rattle.laws.proofs.Chains.{ChainAt, chain-head, Same, chain-frame}
 use Rattle.laws.proofs.Sizes.{Sizes, slot-inside, slot-whole}
-use Rattle.laws.proofs.Parts.{start-fixed, start-multi}
-use Rattle.ledger.proofs.Passed.{first-past}
+use Rattle.laws.proofs.Overheads.{start-fixed, start-multi}
 use Rattle.ledger.proofs.Invariant.{Started, Parted, owned-once, chain-counted, chains-apart, setAt, setAt-same, setAt-other}
 use Rattle.ledger.proofs.Effects.{header-same}
 use Rattle.ledger.proofs.SoundTables.{sound-tests, sound-open, sound-sizes, sound-last, sound-parted, parted-freeList, parted-chainAt, parted-sound}

@@ -30,7 +30,7 @@ use Rattle.definition.specs.Run.{ledgerOf, run}
 use Rattle.laws.proofs.Lists.{drop-append}
 use Rattle.laws.proofs.Puts.{length-put, put-is}
 use Rattle.laws.proofs.Views.{upd, updAll, upd-same, upd-other, Fits, length-store, view-store}
-use Rattle.laws.proofs.Tests.{passed, first-pass}
+use Rattle.laws.proofs.Tests.{passed, first-pass, first-both}
 use Rattle.laws.proofs.Bytes.{length-bytes}
 use Rattle.laws.proofs.Counting.{In, in-nil, in-head, in-tail}
 use Rattle.laws.proofs.Stores.{slotsOf, slotsOf-chain, slotsOf-free, header-none, header-one, length-new, occ-freeAfter}
@@ -41,7 +41,7 @@ use Rattle.laws.proofs.Sizes.{Sizes, sizes, room-fits, slot-inside}
 use Rattle.laws.proofs.NewChains.{pieces-cut}
 use Rattle.laws.proofs.Fitting.{CutOrNone, effect-fits}
 use Rattle.laws.proofs.Distinct.{Apart, chain-free-apart, free-apart, taken-in}
-use Rattle.ledger.proofs.Passed.{first-both, Opened, opened, slot-passed, chain-passed, free-passed}
+use Rattle.laws.proofs.Passed.{Opened, opened, slot-passed, chain-passed, free-passed}
 use Rattle.ledger.proofs.WritesAgree.{cut-any}
 use Rattle.ledger.proofs.ChangeAgrees.{count-inside}
 use Rattle.ledger.proofs.OneCall.{call-agrees}

@@ -17,11 +17,11 @@ use Rattle.definition.specs.Calls.{capacity, freeListTest, tableTests}
 use Rattle.definition.specs.Sound.{startsAt, Sound}
 use Rattle.laws.proofs.Conditions.{yes-no}
 use Rattle.laws.proofs.Lists.{drop-take}
-use Rattle.laws.proofs.Tests.{first-one}
+use Rattle.laws.proofs.Tests.{first-past, first-one}
 use Rattle.laws.proofs.Views.{view-zero}
 use Rattle.laws.proofs.Sizes.{sizes}
-use Rattle.ledger.proofs.Owners.{startsAt-zero, startsAt-above}
-use Rattle.ledger.proofs.Passed.{first-past, open-tests}
+use Rattle.laws.proofs.Starts.{startsAt-zero, startsAt-above}
+use Rattle.laws.proofs.Passed.{open-tests}
 
 -- sixteen zeros at the front of slot 0: no free slot, and FILLED reads as 1
 fresh-header : (f : View) → take (linkBytes + linkBytes) (f 0) ≡ replicate (linkBytes + linkBytes) 0 → (lastRemoved f ≡ 0) × (filled f ≡ 1)

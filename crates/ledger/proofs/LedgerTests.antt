@@ -3,10 +3,10 @@
 use mathlib.Core.Path.{_≡_, refl, sym, ap, _∙_}
 use Prim.Native.Nat.{ℕ, zero, suc, _-_, _<_}
 use native.Mathlib.Omega.{arith}
-use mathlib.Core.Bool.{false, _&&_, _||_, not}
+use mathlib.Core.Bool.{false, _&&_, not}
 use mathlib.Core.List.{List, [], _∷_, _++_}
 use mathlib.Core.Option.{Option, none, some}
-use lib.Dec.{eqb, leb, ltb}
+use lib.Dec.{eqb, ltb}
 use Rattle.definition.specs.declared.Settings.{Settings}
 use Rattle.definition.specs.Tests.{refuse, first}
 use Rattle.definition.specs.Settings.{wordBytes, prefixLen}
@@ -14,13 +14,13 @@ use Rattle.definition.specs.Slots.{View, sizeOf, filled, starts, countOf}
 use Rattle.definition.specs.Chains.{walk, keyDiffers, headFault}
 use Rattle.definition.specs.Calls.{slotTest, chainTests}
 use Rattle.definition.specs.Sound.{chainAt, SoundView}
-use Rattle.definition.specs.Ledger.{Chain, Ledger, slotsIn, chainTest, ledgerKeyTest}
+use Rattle.definition.specs.Ledger.{Chain, slotsIn, absentTest, chainTest, ledgerKeyTest}
 use Rattle.definition.specs.Run.{chainOn, ledgerView}
 use Rattle.laws.proofs.Conditions.{cond-yes, cond-no, which, Which, isYes, isNo}
 use Rattle.laws.proofs.Tests.{refuse-yes, refuse-no, first-skip, first-stop, first-pass, first-cons, first-one}
 use Rattle.laws.proofs.Chains.{ChainAt, chain-walk}
-use Rattle.ledger.proofs.Owners.{startsAt-in, chainAt-in}
-use Rattle.ledger.proofs.Passed.{slot-passed}
+use Rattle.laws.proofs.Starts.{startsAt-in, chainAt-in}
+use Rattle.laws.proofs.Passed.{slot-passed}
 
 -- ---- the chain at a slot in use: there is none, or it is well formed and the walk finds it
 
@@ -81,20 +81,10 @@ unfolding ledgerKeyTest
 key-none s none = refl
 key-none s (some c) = refl
 
--- 8 where there is no chain
-unfoldable absentTest : Option Chain → ℕ
-absentTest none = 8
-absentTest (some c) = 0
-
-chainTest-is : (L : Ledger) (h : ℕ) (o : Option Chain) → L .chains h ≡ o → chainTest L h ≡ first (refuse 7 (eqb h 0 || leb (L .filled) h) ∷ absentTest o ∷ [])
-unfolding chainTest absentTest
-chainTest-is L h none e = rw e refl
-chainTest-is L h (some c) e = rw e refl
-
 module _ (s : Settings) (f : View) (h : ℕ) where
   on-view : (l : List ℕ) → chainAt s f h ≡ l → chainTest (ledgerView s f) h ≡ first (slotTest f h ∷ absentTest (chainOn s f h l) ∷ [])
-  unfolding ledgerView slotTest
-  on-view l e = chainTest-is (ledgerView s f) h (chainOn s f h l) (ap (chainOn s f h) e)
+  unfolding chainTest ledgerView slotTest
+  on-view l e = ap (λ (m : List ℕ). first (slotTest f h ∷ absentTest (chainOn s f h m) ∷ [])) e
 
   -- a slot that is none in use
   ledger-slot : (n : ℕ) → slotTest f h ≡ suc n → chainTest (ledgerView s f) h ≡ suc n

@@ -1,7 +1,6 @@
 -- Demand 3 over the definition. What is promised: Owners (the sentence that Sound says), OneCall, Sequences, Frame, Room, Refused, Numbers,
 -- Fresh, ChainOfFour. The others are how it is shown, lowest first.
 pub mod Owners
-pub mod Passed
 pub mod Invariant
 pub mod Effects
 pub mod SoundTables

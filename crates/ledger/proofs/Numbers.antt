@@ -19,12 +19,12 @@ use Rattle.definition.specs.Sound.{hit, occ}
 use Rattle.definition.specs.Ledger.{Call, Insert, Replace, Remove, Change, Read, ReadFixed, FindFixed, FreeCount}
 use Rattle.definition.specs.Run.{run}
 use Rattle.laws.proofs.Conditions.{which, Which, isYes, isNo}
-use Rattle.laws.proofs.Tests.{refuse-yes, first-stop, first-pass}
+use Rattle.laws.proofs.Tests.{refuse-yes, first-stop, first-pass, first-both}
 use Rattle.laws.proofs.Counting.{hit-other}
 use Rattle.laws.proofs.Chains.{ChainAt}
 use Rattle.laws.proofs.Turns.{part-limit, Turn, broken, judged, goesOn, ends, turn}
-use Rattle.ledger.proofs.Passed.{first-both, walk-fixed, chain-passed}
-use Rattle.ledger.proofs.Refused.{teller, Granted, unless-refused, at-granted, accepted-granted, counted-granted, found-granted, members-granted}
+use Rattle.laws.proofs.Passed.{walk-fixed, chain-passed}
+use Rattle.ledger.proofs.Refused.{teller, Granted, unless-refused, answer-alone, at-granted, accepted-granted, counted-granted, found-granted, members-granted}
 
 -- ---- whatever holds of 0 and of the numbers of the tests holds of the first refusal
 
@@ -199,7 +199,7 @@ module _ (s : Settings) (t : List ℕ) (n : ℕ) where
       let f : View = view (s .size) t in
       let P : ℕ → Type 0 = Among (numbersOf FreeCount) in
       let z : P 0 = omega arith in
-      among (numbersOf FreeCount) _ t _ n (members-granted _) e
+      among (numbersOf FreeCount) _ [] _ n (members-granted _) (sym (answer-alone _ _ []) ∙ e)
       (first-is P z _ (table-then P z s f (capacity s t) _ (omega arith) (omega arith) (omega arith) (also (free-is P z (freeList f) (omega arith)) end)))
 
 pub refusal-among : (s : Settings) (c : Call) (t : List ℕ) (n : ℕ) → run s (teller c) t .answer ≡ refusal n → 0 < occ n (numbersOf c)

@@ -12,13 +12,13 @@ use Rattle.definition.specs.Slots.{View, view, filled, countOf, markOf}
 use Rattle.definition.specs.FreeList.{freeList, membersOf}
 use Rattle.definition.specs.Chains.{Walk, contentOf}
 use Rattle.definition.specs.Answers.{Answer, found, content, members}
-use Rattle.definition.specs.Calls.{capacity, checkedKeyTest, outputTest, tableTests, unless, read, fixedTests, lookFixed, readFixed, findFixed, freeCount}
+use Rattle.definition.specs.Calls.{capacity, checkedKeyTest, outputTest, tableTests, answerUnless, read, fixedTests, lookFixed, readFixed, findFixed, freeCount}
 use Rattle.definition.specs.Sound.{chainAt, Sound}
 use Rattle.definition.specs.Ledger.{Read, ReadFixed, FindFixed, FreeCount, told, chainTest, contentIn, foundIn, ledgerLook, ledgerStep}
 use Rattle.definition.specs.Run.{chainOn, ledgerView, ledgerOf}
-use Rattle.laws.proofs.Tests.{passed, first-pass, first-cons}
+use Rattle.laws.proofs.Tests.{passed, first-pass, first-cons, first-past}
 use Rattle.laws.proofs.Chains.{ChainAt}
-use Rattle.ledger.proofs.Passed.{first-past, walk-fixed}
+use Rattle.laws.proofs.Passed.{walk-fixed}
 use Rattle.ledger.proofs.SoundTables.{sound-tests}
 use Rattle.ledger.proofs.Agrees.{Agrees, agree-same, unless-alike}
 use Rattle.ledger.proofs.LedgerTests.{chain-tests, chain-there}
@@ -89,8 +89,8 @@ findFixed-agrees s t key h k = agree-same s t _ _ k (ap (λ (r : Answer × List 
 
 pub freeCount-agrees : (s : Settings) (t : List ℕ) → Sound s t
     → Agrees s t 0 (told t (freeCount s t, [])) (ledgerStep s (capacity s t) FreeCount (ledgerOf s t))
-unfolding freeCount ledgerStep ledgerView unless
+unfolding freeCount ledgerStep ledgerView answerUnless
 freeCount-agrees s t k =
     let f : View = view (s .size) t in
     agree-same s t _ _ k
-    (ap (λ (n : ℕ). (unless n t (members (length (membersOf (freeList f))), t) .0, [])) (k .accepted))
+    (ap (λ (n : ℕ). (answerUnless n (members (length (membersOf (freeList f)))), [])) (k .accepted))

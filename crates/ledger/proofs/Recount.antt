@@ -21,7 +21,8 @@ use Rattle.laws.proofs.Tests.{refuse-no, first-skip, first-pass}
 use Rattle.laws.proofs.Lists.{drop-take}
 use Rattle.laws.proofs.Bytes.{le-bytes, length-bytes}
 use Rattle.laws.proofs.Chains.{TailAt, ChainAt, Same, restBody-frame, rest-frame}
-use Rattle.laws.proofs.Parts.{overhead-bounds, start-fixed, start-multi}
+use Rattle.laws.proofs.Overheads.{start-least, start-fixed, start-multi}
+use Rattle.laws.proofs.Parts.{overhead-bounds}
 
 -- ---- b with the count c at place st
 
@@ -62,20 +63,13 @@ module _ (st c : ℕ) (b : List ℕ) (h : st + countBytes ≤ length b) where
 -- ---- what the head says
 
 module _ (s : Settings) (c : ℕ) (b : List ℕ) (len : startOverhead s + countBytes ≤ length b) where
-  start-least : wordBytes ≤ startOverhead s
-  start-least = go (which (s .multipart))
-    where
-      go : Which (s .multipart) → wordBytes ≤ startOverhead s
-      go (isYes m) = omega (arith, start-multi s m, overhead-bounds s .0)
-      go (isNo m) = omega (arith, start-fixed s m)
-
   mark-same : (mark : List ℕ) → marked mark (recounted (startOverhead s) c b) ≡ marked mark b
   unfolding marked
-  mark-same mark = rw (before (startOverhead s) c b len wordBytes start-least) refl
+  mark-same mark = rw (before (startOverhead s) c b len wordBytes (start-least s)) refl
 
   word-same : sizeWord (recounted (startOverhead s) c b) ≡ sizeWord b
   unfolding sizeWord
-  word-same = num-before (startOverhead s) c b len 0 wordBytes start-least
+  word-same = num-before (startOverhead s) c b len 0 wordBytes (start-least s)
 
   size-same : sizeOf (recounted (startOverhead s) c b) ≡ sizeOf b
   unfolding sizeOf

@@ -1,7 +1,7 @@
 -- Refused: on any table, sound or not, a refused call leaves the table and the output as they were and answers its number, all else empty
 -- (`refused-leaves`). One statement over all calls. The fixed read hands back a part of the table and no number: it is refused where its
 -- companion is, and then the part is empty.
-use mathlib.Core.Path.{_≡_, ap}
+use mathlib.Core.Path.{_≡_, refl, ap}
 use Prim.Native.Nat.{ℕ, zero, suc, _<_}
 use native.Mathlib.Omega.{arith}
 use mathlib.Core.Bool.{Bool}
@@ -9,7 +9,7 @@ use mathlib.Core.List.{List, []}
 use mathlib.Core.Option.{Option, none, some}
 use Rattle.definition.specs.declared.Settings.{Settings}
 use Rattle.definition.specs.Answers.{Answer, refusal, at, accepted, found, content, members}
-use Rattle.definition.specs.Calls.{unless, insert, replace, remove, counted, change, read, lookFixed, readFixed, findFixed, freeCount}
+use Rattle.definition.specs.Calls.{unless, answerUnless, insert, replace, remove, counted, change, read, lookFixed, readFixed, findFixed, freeCount}
 use Rattle.definition.specs.Ledger.{Call, Insert, Replace, Remove, Change, Read, ReadFixed, FindFixed, FreeCount, Outcome, wrote, told}
 use Rattle.definition.specs.Run.{run}
 
@@ -48,6 +48,12 @@ unfolding unless
 unless-refused zero old out n g e = absurd (g n e)
 unless-refused (suc m) old out n g e = let q : suc m ≡ n = cc in (ap (λ (a : Answer). (a, old)) e, q, omega arith)
 
+-- a call that leaves nothing but its answer is refused as one that leaves bytes
+pub answer-alone : (m : ℕ) (a : Answer) (old : List ℕ) → answerUnless m a ≡ unless m old (a, old) .0
+unfolding unless answerUnless
+answer-alone zero a old = refl
+answer-alone (suc m) a old = refl
+
 pub at-granted : (h : ℕ) → Granted (at h)
 at-granted h n e = let z : _≡_ {A = ℕ} 0 1 = cc in omega arith
 
@@ -75,4 +81,4 @@ refused-leaves s (Change d h) t n e = ap (λ (r : Answer × List ℕ). wrote r) 
 refused-leaves s (Read k h out) t n e = ap (λ (r : Answer × List ℕ). told t r) (unless-refused _ out _ n (found-granted _ _ _ _) e .0)
 refused-leaves s (ReadFixed k h) t n e = ap (λ (r : Answer × List ℕ). told t (content (r .1), [])) (unless-refused _ [] _ n (found-granted _ _ _ _) e .0)
 refused-leaves s (FindFixed k h) t n e = ap (λ (r : Answer × List ℕ). told t (r .0, [])) (unless-refused _ [] _ n (found-granted _ _ _ _) e .0)
-refused-leaves s FreeCount t n e = ap (λ (r : Answer × List ℕ). told t (r .0, [])) (unless-refused _ t _ n (members-granted _) e .0)
+refused-leaves s FreeCount t n e = ap (λ (a : Answer). told t (a, [])) e

@@ -20,8 +20,7 @@ use Rattle.definition.specs.Parts.{prefix, pieces}
 use Rattle.definition.specs.Effect.{newSlots}
 use Rattle.definition.specs.Answers.{Answer, refusal, at, accepted}
 use Rattle.definition.specs.Calls.{capacity, freeListTest, roomTest, tableTests, valueTests, chainTests, unless, insert, replace}
-use Rattle.laws.proofs.Tests.{refuse-yes, refuse-no, first-one}
-use Rattle.ledger.proofs.Passed.{first-past}
+use Rattle.laws.proofs.Tests.{refuse-yes, refuse-no, first-past, first-one}
 use Rattle.ledger.proofs.Refused.{at-granted, accepted-granted}
 
 -- the slots that a writer may take: the free ones, and the unused ones at the end

@@ -17,13 +17,14 @@ use Rattle.definition.specs.Chains.{Walk, whole, walk, headFault}
 use Rattle.definition.specs.Calls.{freeListTest, tableTests}
 use Rattle.definition.specs.Sound.{occ, startsAt, chainAt, SoundView}
 use Rattle.laws.proofs.Conditions.{cond-yes, cond-no, by-order, which, Which, isYes, isNo, yes-no}
-use Rattle.laws.proofs.Tests.{first-skip, first-pass, first-one}
+use Rattle.laws.proofs.Tests.{first-skip, first-pass, first-both, first-past, first-one}
 use Rattle.laws.proofs.Counting.{sumTo, pigeon}
 use Rattle.laws.proofs.FreeLists.{FreeAt, walk-free, free-head, free-below}
 use Rattle.laws.proofs.Chains.{chain-walk, walk-chain, head-starts}
 use Rattle.laws.proofs.Sizes.{Sizes, sizes}
-use Rattle.ledger.proofs.Passed.{first-both, first-past, Opened, opened, open-tests, free-passed}
-use Rattle.ledger.proofs.Owners.{filled-pos, startsAt-zero, startsAt-in, startsAt-above, chainAt-zero, chainAt-above, chainAt-in, owners-sum}
+use Rattle.laws.proofs.Starts.{filled-pos, startsAt-zero, startsAt-in, startsAt-above, chainAt-zero, chainAt-above, chainAt-in}
+use Rattle.laws.proofs.Passed.{Opened, opened, open-tests, free-passed}
+use Rattle.ledger.proofs.Owners.{owners-sum}
 use Rattle.ledger.proofs.Invariant.{Started, started, Parted, chain-members, free-members, owned-once, chain-counted}
 
 -- ---- a sound table is parted

@@ -19,7 +19,7 @@ use Rattle.definition.specs.Calls.{capacity, keyTest, valueTest, freeListTest, 
 use Rattle.definition.specs.Sound.{occ, chainAt, SoundView, Sound}
 use Rattle.definition.specs.Ledger.{Insert, Replace, Remove, wrote, withChain, newChain, chainTest, target, ledgerStep}
 use Rattle.definition.specs.Run.{chainOn, ledgerView, ledgerOf}
-use Rattle.laws.proofs.Tests.{first-skip, first-pass, first-cons, first-one}
+use Rattle.laws.proofs.Tests.{first-skip, first-pass, first-cons, first-past, first-one}
 use Rattle.laws.proofs.Counting.{occ-range-below}
 use Rattle.laws.proofs.Stores.{length-new, effect-owns}
 use Rattle.laws.proofs.Chains.{ChainAt}
@@ -27,7 +27,6 @@ use Rattle.laws.proofs.Sizes.{slot-whole, capacity-small, room-fits}
 use Rattle.laws.proofs.Parts.{pieces-some}
 use Rattle.laws.proofs.NewChains.{Cut, pieces-cut}
 use Rattle.laws.proofs.Fitting.{CutOrNone, effect-fits}
-use Rattle.ledger.proofs.Passed.{first-past}
 use Rattle.ledger.proofs.Invariant.{Parted, chain-members, own-head, owned-once, chain-counted, after-in}
 use Rattle.ledger.proofs.SoundTables.{sound-tests, sound-free-test, sound-open, sound-sizes, sound-parted}
 use Rattle.ledger.proofs.Rewritten.{cutOf, newOf, freeOf, filledOf, storesOf, Rewritten, Written, written, removed, head-member}

@@ -1,11 +1,11 @@
 -- What the passed tests of a call say, on any table, sound or not: settings, length and header (`opened`), the slot (`slot-passed`), the
 -- chain (`chain-passed`) and the free list (`free-passed`).
-use mathlib.Core.Path.{_≡_, refl, sym, _∙_}
+use mathlib.Core.Path.{_≡_, refl, _∙_}
 use mathlib.Core.Logic.{_≢_}
 use Prim.Native.Nat.{ℕ, _-_, _≤_, _<_}
 use native.Mathlib.Omega.{arith}
 use mathlib.Core.Bool.{false, _&&_, _||_, not}
-use mathlib.Core.List.{List, [], _∷_, _++_}
+use mathlib.Core.List.{List, [], _∷_}
 use mathlib.Core.Option.{Option, none, some}
 use lib.ListN.{length}
 use lib.Dec.{eqb, leb, ltb}
@@ -17,19 +17,11 @@ use Rattle.definition.specs.Slots.{View, sizeOf, lastRemoved, filled, starts, c
 use Rattle.definition.specs.FreeList.{freeList, membersOf}
 use Rattle.definition.specs.Chains.{whole, walk, keyDiffers, headFault}
 use Rattle.definition.specs.Calls.{settingsTest, bufferTest, headerTest, slotTest, freeListTest, tableTests, chainTests}
 use Rattle.laws.proofs.Conditions.{cond-no, or-no, no-or}
-use Rattle.laws.proofs.Tests.{refuse-no, passed, first-skip, first-pass, first-one, first-append}
+use Rattle.laws.proofs.Tests.{refuse-no, passed, first-skip, first-pass, first-one}
 use Rattle.laws.proofs.FreeLists.{FreeAt, free-walk}
 use Rattle.laws.proofs.Chains.{ChainAt, chain-walk}
-use Rattle.ledger.proofs.Owners.{filled-pos}
-
--- tests one after another: the first lot passes, and so does the second
-pub first-both : (ns ms : List ℕ) → first (ns ++ ms) ≡ 0 → (first ns ≡ 0) × (first ms ≡ 0)
-first-both ns ms e = first-pass (first ns) ms (sym (first-append ns ms) ∙ e)
-
--- a lot that passes is skipped
-pub first-past : (ns ms : List ℕ) → first ns ≡ 0 → first (ns ++ ms) ≡ first ms
-first-past ns ms e = first-append ns ms ∙ first-skip (first ns) ms e
+use Rattle.laws.proofs.Starts.{filled-pos}
 
 -- ---- settings, length and header
 
