@@ -66,7 +66,7 @@ slot-passed f h e =
     (omega arith, leb-false (filled f) h (a .1))
 
 -- a head that passes with a checked key passes without
-head-unkeyed : (s : Settings) (key : Option (List ℕ)) (b : List ℕ) → headFault s key 8 b ≡ 0 → headFault s none 8 b ≡ 0
+pub head-unkeyed : (s : Settings) (key : Option (List ℕ)) (b : List ℕ) → headFault s key 8 b ≡ 0 → headFault s none 8 b ≡ 0
 unfolding headFault keyDiffers
 head-unkeyed s key b e =
     let a = first-pass (refuse 8 (not (starts s b))) _ e in

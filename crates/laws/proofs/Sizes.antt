@@ -2,7 +2,7 @@
 -- of the room (`room-fits`), and that a slot below the capacity lies whole in the table (`slot-inside`, `slot-whole`).
 use mathlib.Core.Path.{_≡_, refl, sym, ap₂, _∙_}
 use Prim.Native.Nat.{ℕ, _+_, _-_, _*_, _/_, _≤_, _<_}
-use native.Mathlib.Nat.{div-mul-le-self, div-le-self}
+use native.Mathlib.Nat.{le-trans, mul-le-mul-right, div-mul-le-self, div-le-self}
 use native.Mathlib.Omega.{arith}
 use mathlib.Core.Bool.{Bool, true, false, cond, _&&_, not}
 use mathlib.Core.List.{List, []}
@@ -103,6 +103,11 @@ module _ (s : Settings) (t : List ℕ) where
   pub slot-inside : (i : ℕ) → i < capacity s t → i * s .size + s .size ≤ length t
   unfolding capacity
   slot-inside i h = within (s .size) i (length t / s .size) (length t) h (div-mul-le-self (length t) (s .size))
+
+  -- and so do as many slots as it has
+  pub slots-inside : (F : ℕ) → F ≤ capacity s t → F * s .size ≤ length t
+  unfolding capacity
+  slots-inside F h = le-trans (mul-le-mul-right (s .size) h) (div-mul-le-self (length t) (s .size))
 
   pub slot-whole : (i : ℕ) → i < capacity s t → length (view (s .size) t i) ≡ s .size
   slot-whole i h = length-view (s .size) i t (slot-inside i h)

@@ -1,6 +1,6 @@
 -- An ordered list of tests gives the first refusal: where the tests before one pass and it refuses, its number is the answer, and
 -- where the answer is 0 every test passes.
-use mathlib.Core.Path.{_≡_, refl, sym, _∙_}
+use mathlib.Core.Path.{_≡_, refl, sym, ap, _∙_}
 use mathlib.Core.Bool.{Bool, true, false}
 use mathlib.Core.List.{List, [], _∷_, _++_}
 use Prim.Native.Nat.{ℕ, zero, suc, _<_}

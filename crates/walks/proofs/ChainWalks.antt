@@ -17,14 +17,15 @@ use Rattle.definition.specs.declared.PartKind.the-variants.{Head, Continuation,
 use Rattle.definition.specs.Tests.{numberOf, refuse, first}
 use Rattle.definition.specs.Settings.{prefixLen, headOverhead, badSettings}
 use Rattle.definition.specs.Slots.{View, view, filled, sizeOf, totalOf, headLink, markOf}
-use Rattle.definition.specs.Chains.{Parse, refused, part, unlessRefused, keyDiffers, headFault, startPart, headParse, Walk, whole, partsFrom, sizedBody, restBody, bodyOf, contentOf, totalGood, withTotal, walk}
+use Rattle.definition.specs.Chains.{Parse, refused, part, unlessRefused, headFault, startPart, headParse, Walk, whole, partsFrom, sizedBody, restBody, bodyOf, contentOf, totalGood, withTotal, walk}
 use Rattle.definition.specs.Calls.{slotTest, chainTests}
 use Rattle.laws.proofs.Conditions.{yes-no, cond-yes, cond-no, or-left, or-right, or-no, and-skip}
 use Rattle.laws.proofs.Tests.{number-some, refuse-yes, refuse-no, first-skip, first-refuses, first-pass, first-one, passed}
 use Rattle.laws.proofs.Lists.{length-part}
 use Rattle.laws.proofs.Views.{length-view, apart}
 use Rattle.laws.proofs.Sizes.{Sizes, sizes}
-use Rattle.laws.proofs.Chains.{RestAt, rest-walk}
+use Rattle.laws.proofs.Chains.{rest-walk}
+use Rattle.laws.proofs.Passed.{head-unkeyed}
 use Rattle.walks.specs.declared.Extent.{Extent}
 use Rattle.walks.specs.declared.Walked.{Walked}
 use Rattle.walks.specs.Met.{walkedIs, restIs, chainIs, chainTested}
@@ -32,13 +33,13 @@ use Rattle.walks.specs.Met.{walkedIs, restIs, chainIs, chainTested}
 -- ---- how much later parts hold
 
 -- at most a slot each
-rest-most : (f : View) (E : ℕ) (l : List ℕ) → ((i : ℕ) → length (f i) ≤ E) → length (restBody f l) ≤ length l * E
+pub rest-most : (f : View) (E : ℕ) (l : List ℕ) → ((i : ℕ) → length (f i) ≤ E) → length (restBody f l) ≤ length l * E
 unfolding restBody sizedBody
 rest-most f E [] h = omega arith
 rest-most f E (x ∷ []) h = rw (length-take, length-drop) (omega (arith, h x, suc-mul 0 E))
 rest-most f E (x ∷ y ∷ l) h = rw (length-append, length-drop) (omega (arith, h x, rest-most f E (y ∷ l) h, suc-mul (suc (length l)) E))
 
-slot-most : (E : ℕ) (t : List ℕ) (i : ℕ) → length (view E t i) ≤ E
+pub slot-most : (E : ℕ) (t : List ℕ) (i : ℕ) → length (view E t i) ≤ E
 unfolding view
 slot-most E t i = rw length-take (omega arith)
 
@@ -122,8 +123,8 @@ starts-with s b k n e = go (s .multipart) refl k n e
 pub starts-head : (s : Settings) (b : List ℕ) (x n : ℕ) → part (Head x) n ≡ startPart s b → (s .multipart ≡ true) × (x ≡ headLink s b) × (n ≡ s .size - headOverhead s)
 starts-head s b x n e = starts-with s b (Head x) n e
 
--- a head's size is not too large
-size-fits : (s : Settings) (b : List ℕ) → s .multipart ≡ false → headFault s none 8 b ≡ 0 → sizeOf b ≤ s .size - 2
+-- a plain slot's size is not too large
+pub size-fits : (s : Settings) (b : List ℕ) → s .multipart ≡ false → headFault s none 8 b ≡ 0 → sizeOf b ≤ s .size - 2
 unfolding headFault
 size-fits s b m e =
     let t₁ = first-pass _ _ e in
@@ -132,6 +133,14 @@ size-fits s b m e =
     let t₄ = first-pass _ _ (t₃ .1) in
     let t₅ = first-pass _ _ (t₄ .1) in
     ltb-false (s .size - 2) (sizeOf b) (sym (and-skip (not (s .multipart)) _ (ap not m)) ∙ passed 9 _ (omega arith) (t₅ .0))
+
+-- nor too small
+pub size-least : (s : Settings) (b : List ℕ) → s .multipart ≡ false → headFault s none 8 b ≡ 0 → prefixLen s ≤ sizeOf b
+unfolding headFault
+size-least s b m e =
+    let t₁ = first-pass _ _ e in
+    let t₂ = first-pass _ _ (t₁ .1) in
+    ltb-false (sizeOf b) (prefixLen s) (sym (and-skip (not (s .multipart)) _ (ap not m)) ∙ passed 9 _ (omega arith) (t₂ .0))
 
 one-part : (s : Settings) (f : View) (F h : ℕ) → 2 ≤ s .size → length (f h) ≡ s .size → headFault s none 8 (f h) ≡ 0 → s .multipart ≡ false → (n : ℕ) → n ≡ sizeOf (f h)
     → chainIs (Walked.Chain (record { parts = 1; bytes = n })) s f (walk s f F h)
@@ -172,16 +181,6 @@ unfolding unlessRefused
 parse-accepted s b k m zero e = (e, refl)
 parse-accepted s b k m (suc n) e = absurd (let z : _≡_ {A = ℕ} 0 1 = cc in omega arith)
 
--- what passed with a key passes without one
-unchecked : (s : Settings) (key : Option (List ℕ)) (b : List ℕ) → headFault s key 8 b ≡ 0 → headFault s none 8 b ≡ 0
-unfolding headFault keyDiffers
-unchecked s key b e =
-    let t₁ = first-pass _ _ e in
-    let t₂ = first-pass _ _ (t₁ .1) in
-    let t₃ = first-pass _ _ (t₂ .1) in
-    let t₄ = first-pass _ _ (t₃ .1) in
-    first-skip _ _ (t₁ .0) ∙ first-skip _ _ (t₂ .0) ∙ first-skip _ _ (t₃ .0) ∙ first-skip _ _ (refuse-no 8 false refl) ∙ t₄ .1
-
 module _ (s : Settings) (f : View) (h : ℕ) (key : Option (List ℕ)) where
   pub slot-zero : h ≡ 0 → chainTested (Walked.Refused Refusal.Slot) s f h key
   unfolding slotTest
@@ -208,7 +207,7 @@ module _ (s : Settings) (f : View) (h : ℕ) (key : Option (List ℕ)) where
 
       -- it is accepted
       pub head-accepted : (part k n ≡ startPart s (f h)) × (headFault s none 8 (f h) ≡ 0)
-      head-accepted = (good-head .0, unchecked s key (f h) (good-head .1))
+      head-accepted = (good-head .0, head-unkeyed s key (f h) (good-head .1))
 
       -- and the walk decides
       pub walk-decides : (r : Walked) → chainIs r s f (walk s f (filled f) h) → chainTested r s f h key

@@ -3,3 +3,4 @@ pub mod FreeLaws
 pub mod WalkLaws
 pub mod ChainWalks
 pub mod CopyLaws
+pub mod StartCopies

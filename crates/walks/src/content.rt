@@ -11,16 +11,11 @@ use slots::settings::prefix_len;
 ghost use mathlib.Core.Path.{_≡_};
 ghost use mathlib.Core.Bool.{false};
 ghost use mathlib.Core.List.{List};
-ghost use mathlib.Core.Option.{none};
-ghost use Prim.Native.Nat.{ℕ, _+_, _≤_, min};
+ghost use Prim.Native.Nat.{ℕ, min};
 ghost use lib.ListN.{length, take, drop};
 ghost use Rattle.definition.specs.Numbers.{put};
-ghost use Rattle.definition.specs.Tests.{first};
 ghost use Rattle.definition.specs.Settings.{badSettings};
-ghost use Rattle.definition.specs.Slots.{view, filled};
-ghost use Rattle.definition.specs.Chains.{contentOf, walk};
-ghost use Rattle.definition.specs.Calls.{capacity, tableTests, chainTests};
-ghost use Rattle.walks.specs.Spans.{startSpan, partSpan, Copying};
+ghost use Rattle.walks.specs.Spans.{startSpan, partSpan, contentAt, Copying, Copyable};
 
 // The smaller of two numbers.
 fn smaller(a: usize, b: usize) -> usize
@@ -102,11 +97,8 @@ fn copy_rest(
 
 // Copies n bytes of the content of the chain in slot `at`, from place `from` of the content on, to the front of out.
 pub fn copy_content(table: &[u8], s: Settings, at: u64, from: usize, n: usize, out: &mut [u8])
-    requires { ⌜ (first (tableTests s (view (s .size) (now table)) (capacity s (now table))) ≡ 0)
-        × (first (chainTests s (view (s .size) (now table)) at none) ≡ 0)
-        × (from + n ≤ length (contentOf s (view (s .size) (now table)) (walk s (view (s .size) (now table)) (filled (view (s .size) (now table))) at .slots)))
-        × (n ≤ length (now out)) ⌝ }
-    ensures { λ _. ⌜ now (out .exit) ≡ put (now (out .entry)) 0 (take n (drop from (contentOf s (view (s .size) (now (table .entry))) (walk s (view (s .size) (now (table .entry))) (filled (view (s .size) (now (table .entry)))) at .slots)))) ⌝ }
+    requires { ⌜ Copyable s (now table) at from n (now out) ⌝ }
+    ensures { λ _. ⌜ now (out .exit) ≡ put (now (out .entry)) 0 (take n (drop from (contentAt s (now (table .entry)) at))) ⌝ }
 {
     let a = (at as usize) * s.size;
     let z = a + s.size;
