@@ -86,9 +86,6 @@ number-some Output = omega arith
 pub first-refuses : (n a : ℕ) (ns : List ℕ) → a ≡ n → 0 < n → first (a ∷ ns) ≡ n
 first-refuses n a ns e h = ap (λ (x : ℕ). first (x ∷ ns)) e ∙ first-stop n ns h
 
--- the same of tests that go together, and of those that pass
+-- the same of tests that go together
 pub first-refuse-all : (n : ℕ) (ns ms : List ℕ) → first ns ≡ n → 0 < n → first (ns ++ ms) ≡ n
 first-refuse-all n ns ms e h = first-append ns ms ∙ first-refuses n (first ns) ms e h
-
-pub first-pass-all : (ns ms : List ℕ) → first ns ≡ 0 → first (ns ++ ms) ≡ first ms
-first-pass-all ns ms e = first-append ns ms ∙ first-skip (first ns) ms e

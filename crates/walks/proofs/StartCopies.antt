@@ -114,6 +114,13 @@ module _ (s : Settings) (t : List ℕ) (at from n : ℕ) (out : List ℕ) (pre :
       let i = slots-inside s t (filled f) (open-table .fits) in
       omega (arith, pre .enough, length-drop (prefixLen s) (bodyOf s f l), start .lies, start .slot, prefix-most s)
 
+  -- the prefix is there
+  pub prefix-there : prefixLen s ≤ length (bodyOf s (view (s .size) t) (walk s (view (s .size) t) (filled (view (s .size) t)) at .slots))
+  prefix-there =
+      let b : List ℕ = view (s .size) t at in
+      let lp = length-piece (s .size) (startSpan s b) b (length-view (s .size) at t (start .slot)) (start .lies) in
+      rw (start .body) (rw length-append (omega (arith, lp, start .prefixed)))
+
   -- what the copy comes to
   unfoldable pub copied : List ℕ
   copied = put out 0 (take n (drop from (contentAt s t at)))
@@ -139,8 +146,7 @@ module _ (s : Settings) (t : List ℕ) (at from n : ℕ) (out : List ℕ) (pre :
     unfolding contentOf
     all =
         let b = bodyOf s (view (s .size) t) (walk s (view (s .size) t) (filled (view (s .size) t)) at .slots) in
-        let long : prefixLen s ≤ length b = rw body-is (rw length-append (omega (arith, piece-long, rw (← e) at (start .prefixed)))) in
-        rw (← body-is) (omega (arith, pre .enough, length-drop (prefixLen s) b))
+        rw (← body-is) (omega (arith, prefix-there, pre .enough, length-drop (prefixLen s) b))
 
     -- the place and number of bytes to copy lie within the table and the output
     pub fits : (at * s .size + p .start + k + j ≤ length t) × (j ≤ length out) × (k ≤ skip) × (j ≤ n)

@@ -1,0 +1,4 @@
+-- Laws of the calls: one for each way out.
+pub mod Outcomes
+pub mod CheckLaws
+pub mod ReadLaws
