@@ -20,5 +20,7 @@ pub mod Parts
 pub mod NewChains
 pub mod Fitting
 pub mod Distinct
+pub mod Linked
+pub mod Taking
 pub mod Steps
 pub mod Counts
