@@ -2,3 +2,5 @@
 pub mod Outcomes
 pub mod CheckLaws
 pub mod ReadLaws
+pub mod StepLaws
+pub mod CountLaws

@@ -1,17 +1,24 @@
 -- What each stage of checks says of the definition's tests: they pass, with the values found, or the first that refuses gives this number.
 use mathlib.Core.Path.{_≡_}
+use mathlib.Core.Bool.{Bool}
 use mathlib.Core.List.{List, [], _∷_, _++_}
 use mathlib.Core.Option.{Option, none, some}
-use Prim.Native.Nat.{ℕ}
+use Prim.Native.Nat.{ℕ, _-_}
+use lib.Dec.{eqb}
 use lib.ListN.{length}
 use Rattle.definition.specs.declared.Settings.{Settings}
+use Rattle.definition.specs.declared.Written.{Written}
 use Rattle.definition.specs.Tests.{numberOf, first}
 use Rattle.definition.specs.Slots.{View, view, filled, headerOf, countOf}
+use Rattle.definition.specs.FreeList.{freeList}
 use Rattle.definition.specs.Chains.{headFault, bodyOf, walk}
-use Rattle.definition.specs.Calls.{capacity, tableTests, checkedKeyTest, slotTest, chainTests}
+use Rattle.definition.specs.Parts.{prefix, pieces}
+use Rattle.definition.specs.Calls.{capacity, tableTests, valueTests, checkedKeyTest, slotTest, chainTests, roomTests, freeListTest}
 use Rattle.walks.specs.declared.Walked.{Walked}
 use Rattle.walks.specs.Met.{walkedIs}
 use Rattle.table.specs.declared.checks.Opened.{Opened}
+use Rattle.table.specs.declared.writing.Valued.{Valued}
+use Rattle.table.specs.declared.writing.Fitted.{Fitted}
 use Rattle.table.specs.declared.counting.Counted.{Counted}
 use Rattle.table.specs.declared.counting.Stepped.{Stepped}
 
@@ -35,3 +42,56 @@ countIs (Counted.Refused r) s f h = first (slotTest f h ∷ headFault s none 8 (
 abbrev pub steppedTo : Option ℕ → Stepped
 steppedTo none = Stepped.Last
 steppedTo (some n) = Stepped.Count n
+
+-- ---- insert, replace and remove
+
+-- 4 and 6, and the parts needed
+abbrev pub valuedIs : Valued → Settings → List ℕ → List ℕ → Type 0
+valuedIs (Valued.Parts n) s key content = (first (valueTests s key content) ≡ 0) × (n ≡ length (pieces s (prefix s key ++ content)))
+valuedIs (Valued.Refused r) s key content = first (valueTests s key content) ≡ numberOf r
+
+-- tests that answer acceptance only
+abbrev pub testedIs : Written → List ℕ → Type 0
+testedIs Written.Accepted tests = first tests ≡ 0
+testedIs (Written.Refused r) tests = first tests ≡ numberOf r
+
+-- 11 and 12
+abbrev pub roomStage : Written → Settings → List ℕ → ℕ → Type 0
+roomStage r s t need = testedIs r (roomTests (view (s .size) t) (capacity s t) need)
+
+-- the slots of the chain at h, and the parts of a new record
+abbrev pub chainOf : Settings → List ℕ → ℕ → List ℕ
+chainOf s t h = walk s (view (s .size) t) (filled (view (s .size) t)) h .slots
+
+abbrev pub newParts : Settings → List ℕ → List ℕ → ℕ
+newParts s key content = length (pieces s (prefix s key ++ content))
+
+-- the tests of each call, as the definition lists them
+abbrev pub insertTests : Settings → List ℕ → List ℕ → List ℕ → List ℕ
+insertTests s key content t =
+    tableTests s (view (s .size) t) (capacity s t) ++ (valueTests s key content ++ roomTests (view (s .size) t) (capacity s t) (newParts s key content))
+
+abbrev pub replaceTests : Settings → List ℕ → List ℕ → ℕ → List ℕ → List ℕ
+replaceTests s key content h t =
+    tableTests s (view (s .size) t) (capacity s t)
+    ++ (valueTests s key content ++ (chainTests s (view (s .size) t) h none ++ roomTests (view (s .size) t) (capacity s t) (newParts s key content - length (chainOf s t h))))
+
+abbrev pub removeTests : Settings → ℕ → List ℕ → List ℕ
+removeTests s h t =
+    tableTests s (view (s .size) t) (capacity s t) ++ (chainTests s (view (s .size) t) h none ++ (freeListTest (freeList (view (s .size) t)) ∷ []))
+
+-- all of replace's tests, and whether the new chain has as many parts as the old
+abbrev pub fittedIs : Fitted → Settings → List ℕ → List ℕ → ℕ → List ℕ → Type 0
+fittedIs (Fitted.Same b) s key content h t = (first (replaceTests s key content h t) ≡ 0) × (b ≡ eqb (newParts s key content) (length (chainOf s t h)))
+fittedIs (Fitted.Refused r) s key content h t = first (replaceTests s key content h t) ≡ numberOf r
+
+-- all tests passed: from here on nothing refuses
+pub record Insertable (s : Settings) (key content t : List ℕ) : Type 0 where
+  pub tests : first (insertTests s key content t) ≡ 0
+
+pub record Replaceable (s : Settings) (key content : List ℕ) (h : ℕ) (same : Bool) (t : List ℕ) : Type 0 where
+  pub tests : first (replaceTests s key content h t) ≡ 0
+  pub stays : same ≡ eqb (newParts s key content) (length (chainOf s t h))
+
+pub record Removable (s : Settings) (h : ℕ) (t : List ℕ) : Type 0 where
+  pub tests : first (removeTests s h t) ≡ 0

@@ -3,9 +3,13 @@
 mod checks;
 mod reading;
 mod counting;
+mod writing;
 
 pub use counting::change_count;
 pub use counting::free_count;
 pub use reading::find_fixed;
 pub use reading::read;
 pub use reading::read_fixed;
+pub use writing::insert;
+pub use writing::remove;
+pub use writing::replace;

@@ -1,45 +1,35 @@
+use native.Mathlib.Omega.{arith}
 use borrow.Author.Needs.{needs}
+use Rattle.table.proofs.StepLaws.{locks, adds, stays, lasts, takes}
 use Rattle.table.proofs.counting.after_step.Statement.{statement}
 use Rattle.table.proofs.counting.after_step.Tie as tie
-use Rattle.table.proofs.counting.after_step.Reads as reads
-use Rattle.table.proofs.counting.after_step.Lts as lts
-use Rattle.table.proofs.counting.magnitude.Reads as magnitude-reads
 
--- src/counting.rt:56:9
 magnitude-requires : tie.Need-magnitude-requires
 magnitude-requires c κs = search needs
 
--- src/counting.rt:58:21
 sub-if2 : tie.Need-sub-if2
 sub-if2 c = search needs
 
--- src/counting.rt:59:13
 returns : tie.Need-returns
-returns c = ?
+returns c = locks (c .before .before .before .args .step) (c .before .before .before .fits .step) _ _ (c .before .before .magnitude .ensures) (c .before .if1 .taken) (c .if2 .taken) (omega arith)
 
--- src/counting.rt:61:31
 add-t5 : tie.Need-add-t5
 add-t5 c = search needs
 
--- src/counting.rt:61:9
 returns-2 : tie.Need-returns-2
-returns-2 c = ?
+returns-2 c = adds (c .before .before .before .args .step) (c .before .before .before .fits .step) _ _ (c .before .before .magnitude .ensures) (c .before .if1 .taken) (c .if2 .left)
 
--- src/counting.rt:64:9
 returns-3 : tie.Need-returns-3
-returns-3 c = ?
+returns-3 c = stays (c .before .before .before .args .step) (c .before .before .before .fits .step) _ _ (c .before .before .magnitude .ensures) (c .before .if1 .left) (c .if3 .taken)
 
--- src/counting.rt:67:9
 returns-4 : tie.Need-returns-4
-returns-4 c = ?
+returns-4 c = lasts (c .before .before .before .before .args .step) (c .before .before .before .before .fits .step) _ _ (c .before .before .before .magnitude .ensures) (c .before .before .if1 .left) (omega arith) (c .if4 .taken)
 
--- src/counting.rt:69:20
 sub-t7 : tie.Need-sub-t7
 sub-t7 c = search needs
 
--- src/counting.rt:53:1
 returns-5 : tie.Need-returns-5
-returns-5 c = ?
+returns-5 c = takes (c .before .before .before .before .args .step) (c .before .before .before .before .fits .step) _ _ (c .before .before .before .magnitude .ensures) (c .before .before .if1 .left) (omega arith) (c .if4 .left)
 
 pub after-step-spec : {M : Type 1} → statement M
 after-step-spec =

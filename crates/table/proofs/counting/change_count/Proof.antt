@@ -1,92 +1,115 @@
+use mathlib.Core.Path.{_≡_, sym, ap, _∙_, subst}
+use mathlib.Core.Bool.{true}
+use denote.Ref.{now}
+use lib.IntN.{ℤ}
+use mir.Syntax.{w32}
+use mir.ValLaws.{toZ-ofZ}
 use borrow.Author.Needs.{needs}
+use borrow.Author.Tests.{not-true, not-false}
+use Rattle.definition.specs.Slots.{view}
+use Rattle.definition.specs.Calls.{newCount}
+use Rattle.table.specs.declared.checks.Opened.{Opened}
+use Rattle.table.specs.declared.counting.Counted.{Counted}
+use Rattle.table.specs.Stages.{openedIs, countIs, steppedTo}
+use Rattle.table.proofs.CheckLaws.{filled-inside}
+use Rattle.table.proofs.CountLaws.{change-closed, change-uncounted, change-refused, change-inside, change-last, change-stored}
 use Rattle.table.proofs.counting.change_count.Statement.{statement}
 use Rattle.table.proofs.counting.change_count.Tie as tie
-use Rattle.table.proofs.counting.change_count.Reads as reads
-use Rattle.table.proofs.counting.change_count.Lts as lts
-use Rattle.table.proofs.checks.check_table.Reads as check-table-reads
-use Rattle.table.proofs.counting.after_step.Reads as after-step-reads
-use Rattle.table.proofs.counting.check_count.Reads as check-count-reads
-use Rattle.table.proofs.counting.store_count.Reads as store-count-reads
 
--- src/counting.rt:116:11
+-- what the table's checks say where they find r, and those of the slot and the head
+abbrev Opens : tie.After-check-table → Opened → Type 0
+Opens c r = openedIs r (c .before .before .before .args .s) (now (c .before .before .before .args .table))
+
+abbrev Counts : tie.After-check-count → Counted → Type 0
+Counts c r = let a = c .before .before .before .before .before .before .before .before .before .before .args in countIs r (a .s) (view (a .s .size) (now (a .table))) (a .slot)
+
+-- the table is open, with this header
+opened-is : (c : tie.After-known-told2) → Opens (c .before .before .before) (Opened.Table (c .before .h .given .0 .0))
+opened-is c = subst (Opens (c .before .before .before)) (c .before .h .given .1) (c .before .before .before .check-table .ensures)
+
+-- it is counted
+counted-is : (c : tie.Else1) → c .before .before .before .before .before .before .before .before .args .s .counted ≡ true
+counted-is c = not-false (c .before .before .before .before .before .before .before .before .args .s .counted) (c .if1 .left)
+
+-- slot and head passed: this is the count
+count-is : (c : tie.After-known-told4) → Counts (c .before .before .before) (Counted.Count (c .before .count .given .0 .0))
+count-is c = subst (Counts (c .before .before .before)) (c .before .count .given .1) (c .before .before .before .check-count .ensures)
+
+-- the count after the step
+stepped-is : (c : tie.After-after-step) → c .after-step .result ≡ steppedTo (newCount (c .before .before .count .given .0 .0) (c .before .before .before .before .before .before .before .before .before .before .before .before .before .before .args .step))
+stepped-is c =
+    let a = c .before .before .before .before .before .before .before .before .before .before .before .before .before .before in
+    c .after-step .ensures ∙ ap (λ (z : ℤ). steppedTo (newCount (c .before .before .count .given .0 .0) z)) (toZ-ofZ w32 (a .args .step) (a .fits .step))
+
 check-table-requires : tie.Need-check-table-requires
 check-table-requires c κs = search needs
 
--- src/counting.rt:117:25
 enum-known-r : tie.Need-enum-known-r
 enum-known-r c = search needs
 
--- src/counting.rt:118:23
 enum-known-h : tie.Need-enum-known-h
 enum-known-h c = search needs
 
--- src/counting.rt:120:17
 same-length : tie.Need-same-length
 same-length c = search needs
 
--- src/counting.rt:120:17
 returns : tie.Need-returns
-returns c = ?
+returns c = change-uncounted _ _ _ _ _ (opened-is (c .before .before)) (not-true (c .before .before .before .before .before .before .before .before .args .s .counted) (c .if1 .taken))
 
--- src/counting.rt:122:19
 check-count-requires : tie.Need-check-count-requires
-check-count-requires c κs = ?
+check-count-requires c κs = filled-inside _ _ _ (opened-is (c .before .before .before))
 
--- src/counting.rt:123:34
 enum-known-r-2 : tie.Need-enum-known-r-2
 enum-known-r-2 c = search needs
 
--- src/counting.rt:124:32
 enum-known-count : tie.Need-enum-known-count
 enum-known-count c = search needs
 
--- src/counting.rt:124:48
 after-step-requires : tie.Need-after-step-requires
 after-step-requires c κs = search needs
 
--- src/counting.rt:125:38
 enum-told : tie.Need-enum-told
 enum-told c = search needs
 
--- src/counting.rt:126:36
 enum-known-n : tie.Need-enum-known-n
 enum-known-n c = search needs
 
--- src/counting.rt:127:25
 store-count-requires : tie.Need-store-count-requires
-store-count-requires c κs = ?
+store-count-requires c κs =
+    let a = c .before .before .before .before .before .before .before .before .before .before .before .before .before .before .before .before .before .before .args in
+    change-inside (a .s) (a .step) (a .slot) (now (a .table)) _ (opened-is (c .before .before .before .before .before .before .before .before .before .before .before .before)) (counted-is (c .before .before .before .before .before .before .before .before .before .before)) _ (count-is (c .before .before .before .before .before))
 
--- src/counting.rt:113:1
 same-length-2 : tie.Need-same-length-2
 same-length-2 c = search needs
 
--- src/counting.rt:113:1
 returns-2 : tie.Need-returns-2
-returns-2 c = ?
+returns-2 c =
+    change-closed _ _ _ _ (c .before .r .given .0 .0) (subst (Opens (c .before .before .before)) (c .before .r .given .1) (c .before .before .before .check-table .ensures))
 
--- src/counting.rt:113:1
 same-length-3 : tie.Need-same-length-3
 same-length-3 c = search needs
 
--- src/counting.rt:113:1
 returns-3 : tie.Need-returns-3
-returns-3 c = ?
+returns-3 c =
+    change-refused _ _ _ _ _ (opened-is (c .before .before .before .before .before .before .before)) (counted-is (c .before .before .before .before .before)) (c .before .r2 .given .0 .0)
+    (subst (Counts (c .before .before .before)) (c .before .r2 .given .1) (c .before .before .before .check-count .ensures))
 
--- src/counting.rt:113:1
 same-length-4 : tie.Need-same-length-4
 same-length-4 c = search needs
 
--- src/counting.rt:113:1
 returns-4 : tie.Need-returns-4
-returns-4 c = ?
+returns-4 c =
+    let a = c .before .before .before .before .before .before .before .before .before .before .before .before .before .before .before .before .args in
+    change-last (a .s) (a .step) (a .slot) (now (a .table)) _ (opened-is (c .before .before .before .before .before .before .before .before .before .before)) (counted-is (c .before .before .before .before .before .before .before .before)) _ (count-is (c .before .before .before)) (sym (c .enum-told .given .1) ∙ stepped-is (c .before .before))
 
--- src/counting.rt:113:1
 same-length-5 : tie.Need-same-length-5
 same-length-5 c = search needs
 
--- src/counting.rt:113:1
 returns-5 : tie.Need-returns-5
-returns-5 c = ?
+returns-5 c =
+    let a = c .before .before .before .before .before .before .before .before .before .before .before .before .before .before .before .before .before .before .before .before .before .args in
+    change-stored (a .s) (a .step) (a .slot) (now (a .table)) _ (opened-is (c .before .before .before .before .before .before .before .before .before .before .before .before .before .before .before)) (counted-is (c .before .before .before .before .before .before .before .before .before .before .before .before .before)) _ (count-is (c .before .before .before .before .before .before .before .before))
+    (c .before .before .before .before .before .n .given .0 .0) (sym (c .before .before .before .before .before .n .given .1) ∙ stepped-is (c .before .before .before .before .before .before .before)) _ (c .before .before .store-count .ensures)
 
 pub change-count-spec : {M : Type 1} → statement M
 change-count-spec =

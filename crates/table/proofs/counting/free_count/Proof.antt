@@ -1,34 +1,44 @@
+use mathlib.Core.Path.{subst}
+use native.Mathlib.Omega.{arith}
+use denote.Ref.{now}
 use borrow.Author.Needs.{needs}
+use Rattle.definition.specs.Slots.{view}
+use Rattle.laws.proofs.Starts.{filled-pos}
+use Rattle.table.specs.declared.checks.Opened.{Opened}
+use Rattle.table.specs.Stages.{openedIs}
+use Rattle.table.proofs.CheckLaws.{filled-inside}
+use Rattle.table.proofs.CountLaws.{free-closed, free-decides}
 use Rattle.table.proofs.counting.free_count.Statement.{statement}
 use Rattle.table.proofs.counting.free_count.Tie as tie
-use Rattle.table.proofs.counting.free_count.Reads as reads
-use Rattle.table.proofs.counting.free_count.Lts as lts
-use Rattle.table.proofs.checks.check_table.Reads as check-table-reads
-use Rattle.walks.proofs.free_list.check_free_refs.Reads as check-free-refs-reads
 
--- src/counting.rt:142:11
+-- what the table's checks say where they find r
+abbrev Opens : tie.After-check-table → Opened → Type 0
+Opens c r = openedIs r (c .before .before .args .s) (now (c .before .before .args .table))
+
+-- the table is open, with this header
+opened-is : (c : tie.After-known-told2) → Opens (c .before .before .before) (Opened.Table (c .before .h .given .0 .0))
+opened-is c = subst (Opens (c .before .before .before)) (c .before .h .given .1) (c .before .before .before .check-table .ensures)
+
 check-table-requires : tie.Need-check-table-requires
 check-table-requires c κs = search needs
 
--- src/counting.rt:143:25
 enum-known-r : tie.Need-enum-known-r
 enum-known-r c = search needs
 
--- src/counting.rt:144:23
 enum-known-h : tie.Need-enum-known-h
 enum-known-h c = search needs
 
--- src/counting.rt:144:29
 check-free-refs-requires : tie.Need-check-free-refs-requires
-check-free-refs-requires c κs = ?
+check-free-refs-requires c κs =
+    let a = c .before .before .before .before .before .args in
+    let t = filled-inside (a .s) (now (a .table)) _ (opened-is c) in
+    (t .0, t .1, omega (arith, t .2, filled-pos (view (a .s .size) (now (a .table)))))
 
--- src/counting.rt:139:1
 returns : tie.Need-returns
-returns c = ?
+returns c = free-closed _ _ (c .before .r .given .0 .0) (subst (Opens (c .before .before .before)) (c .before .r .given .1) (c .before .before .before .check-table .ensures))
 
--- src/counting.rt:139:1
 returns-2 : tie.Need-returns-2
-returns-2 c = ?
+returns-2 c = free-decides _ _ _ (opened-is (c .before)) (c .check-free-refs .result) (c .check-free-refs .ensures)
 
 pub free-count-spec : {M : Type 1} → statement M
 free-count-spec =

@@ -1,31 +1,26 @@
+use mathlib.Core.Path.{ap}
+use lib.IntN.{natAbs}
+use Rattle.table.proofs.StepLaws.{wide-fits, minus-fits, minus-held, plus-held, abs-cast}
 use Rattle.table.proofs.counting.magnitude.Statement.{statement}
 use Rattle.table.proofs.counting.magnitude.Tie as tie
-use Rattle.table.proofs.counting.magnitude.Reads as reads
-use Rattle.table.proofs.counting.magnitude.Lts as lts
 
--- src/counting.rt:45:16
 cast-wide : tie.Need-cast-wide
-cast-wide c = ?
+cast-wide c = wide-fits (c .args .step) (c .fits .step)
 
--- src/counting.rt:47:17
 sub-result : tie.Need-sub-result
-sub-result c = ?
+sub-result c = minus-fits (c .before .args .step) (c .before .fits .step) (c .if1 .taken)
 
--- src/counting.rt:47:16
 cast-result : tie.Need-cast-result
-cast-result c = ?
+cast-result c = abs-cast (c .before .args .step) (c .before .fits .step) _ (minus-held (c .before .args .step) (c .before .fits .step) (c .if1 .taken))
 
--- src/counting.rt:47:9
 returns : tie.Need-returns
-returns c = ?
+returns c = ap natAbs (minus-held (c .before .args .step) (c .before .fits .step) (c .if1 .taken))
 
--- src/counting.rt:49:5
 cast-result-2 : tie.Need-cast-result-2
-cast-result-2 c = ?
+cast-result-2 c = abs-cast (c .before .args .step) (c .before .fits .step) _ (plus-held (c .before .args .step) (c .before .fits .step) (c .if1 .left))
 
--- src/counting.rt:42:1
 returns-2 : tie.Need-returns-2
-returns-2 c = ?
+returns-2 c = ap natAbs (plus-held (c .before .args .step) (c .before .fits .step) (c .if1 .left))
 
 pub magnitude-spec : {M : Type 1} → statement M
 magnitude-spec =

@@ -1,26 +1,25 @@
+use mathlib.Core.Path.{ap, _∙_}
+use Prim.Native.Nat.{ℕ}
+use native.Mathlib.Omega.{arith}
+use denote.Ref.{now}
 use borrow.Author.Needs.{needs}
+use Rattle.definition.specs.Numbers.{bytes, put}
+use Rattle.laws.proofs.Overheads.{start-most}
 use Rattle.table.proofs.counting.write_count.Statement.{statement}
 use Rattle.table.proofs.counting.write_count.Tie as tie
-use Rattle.table.proofs.counting.write_count.Reads as reads
-use Rattle.table.proofs.counting.write_count.Lts as lts
-use Rattle.numbers.proofs.write_u32.Reads as write-u32-reads
-use Rattle.slots.proofs.settings.start_overhead.Reads as start-overhead-reads
 
--- src/counting.rt:98:9
 start-overhead-requires : tie.Need-start-overhead-requires
 start-overhead-requires c κs = search needs
 
--- src/counting.rt:99:5
 write-u32-requires : tie.Need-write-u32-requires
-write-u32-requires c κs = ?
+write-u32-requires c κs = omega (arith, c .before .start-overhead .ensures, start-most (c .before .before .before .args .s))
 
--- src/counting.rt:94:1
 same-length : tie.Need-same-length
 same-length c = search needs
 
--- src/counting.rt:94:1
 returns : tie.Need-returns
-returns c = ?
+returns c =
+    c .before .before .write-u32 .ensures ∙ ap (λ (o : ℕ). put (now (c .before .before .before .before .before .before .args .slot)) o (bytes 4 (c .before .before .before .before .before .before .args .count))) (c .before .before .before .before .start-overhead .ensures)
 
 pub write-count-spec : {M : Type 1} → statement M
 write-count-spec =
