@@ -1,0 +1,174 @@
+//! The oracle: the library against the original Rust, with a plain model of document 01 beside both.
+//!
+//! With no argument every suite runs, as in the gate. With arguments: a suite's name, then how many calls, then a seed. `record`
+//! writes recorded/answers.txt anew. The last line is 'N passed, K failed'.
+
+mod compare;
+mod explain;
+mod make;
+mod model;
+mod random;
+mod station;
+mod suites;
+
+use compare::Tally;
+use model::Reading;
+use std::{
+    panic::{catch_unwind, AssertUnwindSafe},
+    path::PathBuf,
+    time::Instant,
+};
+use suites::{batched, differences, figures, planted, sequences};
+
+/// Calls of each random suite in the gate, over all settings.
+const RANDOM: u64 = 100_000;
+const DAMAGED: u64 = 60_000;
+const BATCHED: u64 = 30_000;
+
+struct Run {
+    folder: PathBuf,
+    calls: Option<u64>,
+    seed: u64,
+    passed: u64,
+    failed: u64,
+    total: Tally,
+}
+
+impl Run {
+    fn case(&mut self, name: &str, result: Result<(), String>) {
+        match result {
+            Ok(()) => self.passed += 1,
+            Err(message) => {
+                self.failed += 1;
+                println!("FAILED {name}: {message}");
+            },
+        }
+    }
+
+    /// Cases that are counted together; each is one case of the last line.
+    fn suite(&mut self, name: &str, cases: Vec<(String, Box<dyn FnOnce() -> Result<Tally, String>>)>) {
+        let start = Instant::now();
+        let mut tally = Tally::default();
+        let n = cases.len();
+        for (case, run) in cases {
+            let result = catch_unwind(AssertUnwindSafe(run)).unwrap_or_else(|_| Err(format!("panic: {}", last_panic())));
+            let result = result.map(|done| tally.add(&done));
+            self.case(&format!("{name}, {case}"), result);
+        }
+        println!("{name}: {n} cases, {:.1} s", start.elapsed().as_secs_f64());
+        tally.show();
+        self.total.add(&tally);
+    }
+
+    fn over_settings(&mut self, name: &str, run: impl Fn(PathBuf, model::Settings, u64) -> Result<Tally, String> + Clone + 'static) {
+        let cases = make::settings()
+            .into_iter()
+            .enumerate()
+            .map(|(i, s)| {
+                let (folder, run, seed) = (self.folder.clone(), run.clone(), self.seed + i as u64);
+                let boxed: Box<dyn FnOnce() -> Result<Tally, String>> = Box::new(move || run(folder, s, seed));
+                (make::name(s), boxed)
+            })
+            .collect();
+        self.suite(name, cases);
+    }
+
+    fn each(&self, default: u64) -> u64 {
+        self.calls.unwrap_or(default).div_ceil(make::settings().len() as u64)
+    }
+}
+
+thread_local! {
+    static PANIC: std::cell::RefCell<String> = const { std::cell::RefCell::new(String::new()) };
+}
+
+fn last_panic() -> String {
+    PANIC.with(|last| last.borrow().clone())
+}
+
+fn main() {
+    // The Rust's panics are answers here: none is printed unless it ends a case.
+    std::panic::set_hook(Box::new(|info| PANIC.with(|last| *last.borrow_mut() = info.to_string())));
+    let mut arguments = std::env::args().skip(1);
+    let only = arguments.next();
+    let folder = std::env::temp_dir().join(format!("pyltarka-oracle-{}", std::process::id()));
+    std::fs::create_dir_all(&folder).expect("a folder for the Rust's files");
+    let mut run = Run {
+        folder: folder.clone(),
+        calls: arguments.next().map(|n| n.parse().expect("a number of calls")),
+        seed: arguments.next().map_or(1, |n| n.parse().expect("a seed")),
+        passed: 0,
+        failed: 0,
+        total: Tally::default(),
+    };
+    if !original::PRESENT {
+        println!("skipped: the Rust; its files are not in ../shared/docs/src/src beside the repository");
+    }
+    if !station::PRESENT {
+        println!("skipped: the library; target/staticlib/libstation.a was not there when the oracle was built");
+    }
+    println!("seed {}", run.seed);
+    let wanted = |name: &str| only.as_deref().is_none_or(|only| only == name);
+    if wanted("figures") {
+        let cases = figures::FIGURES
+            .iter()
+            .map(|(name, figure)| {
+                let folder = folder.clone();
+                let boxed: Box<dyn FnOnce() -> Result<Tally, String>> = Box::new(move || {
+                    let mut tally = Tally::default();
+                    figure(&folder, &mut tally).map(|()| tally)
+                });
+                (name.to_string(), boxed)
+            })
+            .collect();
+        run.suite("figures", cases);
+    }
+    if wanted("exhaustive") {
+        run.over_settings("exhaustive", |folder, s, _| sequences::exhaustive(folder, s, Reading::Right));
+    }
+    if wanted("boundaries") {
+        run.over_settings("boundaries", |folder, s, _| sequences::boundaries(folder, s, Reading::Right));
+    }
+    if wanted("steps") {
+        run.over_settings("steps", |folder, s, _| sequences::steps(folder, s, Reading::Right));
+    }
+    if wanted("random") {
+        let calls = run.each(RANDOM);
+        run.over_settings("random", move |folder, s, seed| sequences::random(folder, s, seed, calls, Reading::Right));
+    }
+    if wanted("damaged") {
+        let calls = run.each(DAMAGED);
+        run.over_settings("damaged", move |folder, s, seed| sequences::damaged(folder, s, seed, calls));
+        let (folder, seed) = (folder.clone(), run.seed);
+        run.suite("settings and buffers", vec![("refused".into(), Box::new(move || sequences::refused_settings(folder, seed)))]);
+    }
+    if wanted("batched") && original::PRESENT {
+        let calls = run.each(BATCHED);
+        run.over_settings("batched", move |folder, s, seed| batched::batched(folder, s, seed, calls));
+    }
+    if wanted("differences") && original::PRESENT {
+        for (entry, show) in differences::ENTRIES {
+            let result = catch_unwind(|| show(&folder)).unwrap_or_else(|_| Err(format!("panic: {}", last_panic())));
+            run.case(&format!("difference {entry}"), result);
+        }
+        println!("differences: {} entries of docs/DIFFERENCES.md", differences::ENTRIES.len());
+    }
+    if wanted("planted") && original::PRESENT {
+        for (reading, words) in planted::READINGS {
+            let found = planted::caught(folder.clone(), reading);
+            println!("planted: {words}");
+            for (suite, what) in &found {
+                match what {
+                    Some(what) => println!("  caught by {suite}: {}", what.lines().next().unwrap_or_default()),
+                    None => println!("  not met by {suite}"),
+                }
+            }
+            let result = if found.iter().any(|(_, what)| what.is_some()) { Ok(()) } else { Err("not caught".into()) };
+            run.case(&format!("planted: {words}"), result);
+        }
+    }
+    let _ = std::fs::remove_dir_all(&folder);
+    println!("all suites: {} calls, {} answered by the Rust", run.total.calls, run.total.rust);
+    println!("{} passed, {} failed", run.passed, run.failed);
+    std::process::exit((run.failed > 0) as i32);
+}
