@@ -11,5 +11,8 @@ fn main() {
         println!("cargo:rustc-link-search=native={}", folder.display());
         println!("cargo:rustc-link-lib=static=station");
         println!("cargo:rustc-cfg=station");
+    } else {
+        // A file that never exists: cargo looks again each time.
+        println!("cargo:rerun-if-changed={}", here.join("absent").display());
     }
 }

@@ -14,6 +14,8 @@ fn main() {
     println!("cargo:rerun-if-changed={}", folder.display());
     println!("cargo:rustc-check-cfg=cfg(original)");
     if !folder.join("table.rs").exists() {
+        // A file that never exists: cargo looks again each time.
+        println!("cargo:rerun-if-changed={}", here.join("absent").display());
         return;
     }
     let sums = fs::read_to_string(oracle.join("original.sha256")).expect("original.sha256");

@@ -18,7 +18,7 @@ use std::{
     path::PathBuf,
     time::Instant,
 };
-use suites::{batched, differences, figures, planted, sequences};
+use suites::{batched, differences, figures, planted, recorded, sequences};
 
 /// Calls of each random suite in the gate, over all settings.
 const RANDOM: u64 = 100_000;
@@ -101,6 +101,15 @@ fn main() {
         failed: 0,
         total: Tally::default(),
     };
+    if only.as_deref() == Some("record") {
+        assert!(original::PRESENT, "answers are recorded with the Rust at hand");
+        match recorded::record(folder.clone()) {
+            Ok(text) => print!("{text}"),
+            Err(message) => eprintln!("{message}"),
+        }
+        let _ = std::fs::remove_dir_all(&folder);
+        return;
+    }
     if !original::PRESENT {
         println!("skipped: the Rust; its files are not in ../shared/docs/src/src beside the repository");
     }
@@ -109,6 +118,10 @@ fn main() {
     }
     println!("seed {}", run.seed);
     let wanted = |name: &str| only.as_deref().is_none_or(|only| only == name);
+    let two = original::PRESENT || station::PRESENT;
+    if !two {
+        println!("skipped: sequences; only the model is here, and nothing to compare it with");
+    }
     if wanted("figures") {
         let cases = figures::FIGURES
             .iter()
@@ -123,20 +136,20 @@ fn main() {
             .collect();
         run.suite("figures", cases);
     }
-    if wanted("exhaustive") {
+    if two && wanted("exhaustive") {
         run.over_settings("exhaustive", |folder, s, _| sequences::exhaustive(folder, s, Reading::Right));
     }
-    if wanted("boundaries") {
+    if two && wanted("boundaries") {
         run.over_settings("boundaries", |folder, s, _| sequences::boundaries(folder, s, Reading::Right));
     }
-    if wanted("steps") {
+    if two && wanted("steps") {
         run.over_settings("steps", |folder, s, _| sequences::steps(folder, s, Reading::Right));
     }
-    if wanted("random") {
+    if two && wanted("random") {
         let calls = run.each(RANDOM);
         run.over_settings("random", move |folder, s, seed| sequences::random(folder, s, seed, calls, Reading::Right));
     }
-    if wanted("damaged") {
+    if two && wanted("damaged") {
         let calls = run.each(DAMAGED);
         run.over_settings("damaged", move |folder, s, seed| sequences::damaged(folder, s, seed, calls));
         let (folder, seed) = (folder.clone(), run.seed);
@@ -165,6 +178,18 @@ fn main() {
             }
             let result = if found.iter().any(|(_, what)| what.is_some()) { Ok(()) } else { Err("not caught".into()) };
             run.case(&format!("planted: {words}"), result);
+        }
+    }
+    if wanted("recorded") {
+        let replayed = recorded::replay(recorded::ANSWERS);
+        println!("recorded: {} calls replayed", replayed.as_ref().unwrap_or(&0));
+        run.case("recorded answers, replayed", replayed.map(|_| ()));
+        if original::PRESENT {
+            let same = recorded::record(folder.clone()).and_then(|text| match text == recorded::ANSWERS {
+                true => Ok(()),
+                false => Err("recorded/answers.txt is not what `record` writes today".into()),
+            });
+            run.case("recorded answers, recorded anew", same);
         }
     }
     let _ = std::fs::remove_dir_all(&folder);

@@ -1,6 +1,8 @@
 //! The library, through its C functions. Everything that touches them is in this file.
 
-use crate::model::{Answer, Call, Record, Settings, UNTOUCHED};
+#[cfg(station)]
+use crate::model::{Record, UNTOUCHED};
+use crate::model::{Answer, Call, Settings};
 
 /// Whether the library was there when this was built.
 pub const PRESENT: bool = cfg!(station);
@@ -68,7 +70,9 @@ mod functions {
 /// A call through the library. The output of a read comes with it, else an empty one. Refused answers must be zero in all else.
 #[cfg(station)]
 pub fn call(table: &mut [u8], s: Settings, call: &Call) -> (Answer, Vec<u8>) {
-    use functions::*;
+    use functions::{
+        pyltarka_change_count, pyltarka_free_count, pyltarka_insert, pyltarka_read, pyltarka_read_fixed, pyltarka_remove, pyltarka_replace,
+    };
     let s = functions::Settings { entry_size: s.size, multipart: s.multipart, counted: s.counted, keyed: s.keyed };
     let (t, n) = (table.as_mut_ptr(), table.len());
     let written = |number: u32| if number == 0 { Answer::Accepted } else { Answer::Refused(number) };
@@ -128,6 +132,5 @@ pub fn call(table: &mut [u8], s: Settings, call: &Call) -> (Answer, Vec<u8>) {
 
 #[cfg(not(station))]
 pub fn call(_: &mut [u8], _: Settings, call: &Call) -> (Answer, Vec<u8>) {
-    let _ = (Record { length: 0, mark: false, count: 0, visits: 0 }, UNTOUCHED);
     unreachable!("the library is not linked: {call:?}")
 }
