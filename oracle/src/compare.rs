@@ -38,11 +38,9 @@ impl Tally {
         self.calls += other.calls;
         self.accepted += other.accepted;
         self.rust += other.rust;
-        for (into, from) in [
-            (&mut self.refused, &other.refused),
-            (&mut self.entries, &other.entries),
-            (&mut self.not_asked, &other.not_asked),
-        ] {
+        for (into, from) in
+            [(&mut self.refused, &other.refused), (&mut self.entries, &other.entries), (&mut self.not_asked, &other.not_asked)]
+        {
             for (k, n) in from {
                 *into.entry(*k).or_default() += n;
             }
@@ -273,7 +271,7 @@ impl Bench {
         }
         if let (Ok(()), Expect::Grows(_)) = (&judged, &expect) {
             let len = self.rust.as_ref().unwrap().file_len() - self.table.len() as u64;
-            if len == 0 || len % (256 * 1024) != 0 {
+            if len == 0 || !len.is_multiple_of(256 * 1024) {
                 judged = Err("the Rust's file has not grown by 262,144 bytes a time".into());
             }
         }

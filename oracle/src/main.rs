@@ -25,6 +25,9 @@ const RANDOM: u64 = 100_000;
 const DAMAGED: u64 = 60_000;
 const BATCHED: u64 = 30_000;
 
+/// A case: what it ran, or the first difference.
+type Case = Box<dyn FnOnce() -> Result<Tally, String>>;
+
 struct Run {
     folder: PathBuf,
     calls: Option<u64>,
@@ -46,7 +49,7 @@ impl Run {
     }
 
     /// Cases that are counted together; each is one case of the last line.
-    fn suite(&mut self, name: &str, cases: Vec<(String, Box<dyn FnOnce() -> Result<Tally, String>>)>) {
+    fn suite(&mut self, name: &str, cases: Vec<(String, Case)>) {
         let start = Instant::now();
         let mut tally = Tally::default();
         let n = cases.len();
@@ -66,7 +69,7 @@ impl Run {
             .enumerate()
             .map(|(i, s)| {
                 let (folder, run, seed) = (self.folder.clone(), run.clone(), self.seed + i as u64);
-                let boxed: Box<dyn FnOnce() -> Result<Tally, String>> = Box::new(move || run(folder, s, seed));
+                let boxed: Case = Box::new(move || run(folder, s, seed));
                 (make::name(s), boxed)
             })
             .collect();
@@ -102,7 +105,10 @@ fn main() {
         total: Tally::default(),
     };
     if only.as_deref() == Some("record") {
-        assert!(original::PRESENT, "answers are recorded with the Rust at hand");
+        if !original::PRESENT {
+            eprintln!("answers are recorded with the Rust at hand");
+            std::process::exit(1);
+        }
         match recorded::record(folder.clone()) {
             Ok(text) => print!("{text}"),
             Err(message) => eprintln!("{message}"),
@@ -127,7 +133,7 @@ fn main() {
             .iter()
             .map(|(name, figure)| {
                 let folder = folder.clone();
-                let boxed: Box<dyn FnOnce() -> Result<Tally, String>> = Box::new(move || {
+                let boxed: Case = Box::new(move || {
                     let mut tally = Tally::default();
                     figure(&folder, &mut tally).map(|()| tally)
                 });

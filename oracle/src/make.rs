@@ -174,7 +174,8 @@ pub fn damage(r: &mut Random, s: Settings, table: &mut [u8]) {
             3 => {
                 let e = s.size as u16;
                 let p = s.prefix() as u16;
-                let size = r.pick(&[0, 1, 3, 4, p.wrapping_sub(1) & 0x7fff, p, e - 3, e - 2, e - 1, 4_094, 4_095, 0x7ffc, any as u16 & 0x7fff]);
+                let size =
+                    r.pick(&[0, 1, 3, 4, p.wrapping_sub(1) & 0x7fff, p, e - 3, e - 2, e - 1, 4_094, 4_095, 0x7ffc, any as u16 & 0x7fff]);
                 put(table, at, &(size | (any >> 32) as u16 & 0x8000).to_le_bytes());
             },
             4 => put(table, at + 2, &number.to_le_bytes()),
@@ -195,9 +196,31 @@ pub fn damage(r: &mut Random, s: Settings, table: &mut [u8]) {
     }
 }
 
-pub const STEPS: [i32; 14] = [
-    1, -1, 0, 2, -2, -4, -5, i32::MIN, i32::MIN + 1, i32::MAX, i32::MAX - 1, -i32::MAX, 0x4000_0000, 100,
-];
+/// Any bytes, with a header and marks that let calls come far.
+pub fn any(r: &mut Random, s: Settings, capacity: u64) -> Vec<u8> {
+    let mut table = fresh(r, s, capacity);
+    let filled = 1 + r.below(capacity + 1);
+    let removed = r.below(filled + 1);
+    put(&mut table, 0, &removed.to_le_bytes());
+    put(&mut table, 8, &filled.to_le_bytes());
+    for slot in 1..capacity {
+        let at = (slot * s.size) as usize;
+        let size = r.below(s.size + 2) as u16;
+        let word = size | if r.coin() { 0x8000 } else { 0 };
+        put(&mut table, at, &r.pick(&[[0xff, 0xff], [0xfe, 0xff], [0xfd, 0xff], [0xfd, 0x7f], word.to_le_bytes(), word.to_le_bytes()]));
+        let link = r.below(filled + 1).to_le_bytes();
+        let head = s.multipart && table[at] == 0xfd;
+        if head {
+            put(&mut table, at + 2, &(4_078 + r.below(9_000)).to_le_bytes());
+        }
+        if !r.once_in(4) {
+            put(&mut table, at + if head { 10 } else { 2 }, &link);
+        }
+    }
+    table
+}
+
+pub const STEPS: [i32; 14] = [1, -1, 0, 2, -2, -4, -5, i32::MIN, i32::MIN + 1, i32::MAX, i32::MAX - 1, -i32::MAX, 0x4000_0000, 100];
 
 fn any_key(r: &mut Random) -> Vec<u8> {
     if r.once_in(40) {

@@ -1,8 +1,8 @@
 //! The library, through its C functions. Everything that touches them is in this file.
 
+use crate::model::{Answer, Call, Settings};
 #[cfg(station)]
 use crate::model::{Record, UNTOUCHED};
-use crate::model::{Answer, Call, Settings};
 
 /// Whether the library was there when this was built.
 pub const PRESENT: bool = cfg!(station);
@@ -57,12 +57,49 @@ mod functions {
     }
 
     extern "C" {
-        pub fn pyltarka_insert(table: *mut u8, table_len: usize, s: Settings, key: *const u8, key_len: usize, content: *const u8, content_len: usize, mark: bool) -> Inserted;
-        pub fn pyltarka_replace(table: *mut u8, table_len: usize, s: Settings, slot: u64, key: *const u8, key_len: usize, content: *const u8, content_len: usize, mark: bool) -> u32;
+        pub fn pyltarka_insert(
+            table: *mut u8,
+            table_len: usize,
+            s: Settings,
+            key: *const u8,
+            key_len: usize,
+            content: *const u8,
+            content_len: usize,
+            mark: bool,
+        ) -> Inserted;
+        pub fn pyltarka_replace(
+            table: *mut u8,
+            table_len: usize,
+            s: Settings,
+            slot: u64,
+            key: *const u8,
+            key_len: usize,
+            content: *const u8,
+            content_len: usize,
+            mark: bool,
+        ) -> u32;
         pub fn pyltarka_remove(table: *mut u8, table_len: usize, s: Settings, slot: u64) -> u32;
         pub fn pyltarka_change_count(table: *mut u8, table_len: usize, s: Settings, slot: u64, step: i32) -> Changed;
-        pub fn pyltarka_read(table: *const u8, table_len: usize, s: Settings, slot: u64, checked: bool, key: *const u8, key_len: usize, output: *mut u8, output_len: usize) -> Record;
-        pub fn pyltarka_read_fixed(table: *const u8, table_len: usize, s: Settings, slot: u64, checked: bool, key: *const u8, key_len: usize) -> Part;
+        pub fn pyltarka_read(
+            table: *const u8,
+            table_len: usize,
+            s: Settings,
+            slot: u64,
+            checked: bool,
+            key: *const u8,
+            key_len: usize,
+            output: *mut u8,
+            output_len: usize,
+        ) -> Record;
+        pub fn pyltarka_read_fixed(
+            table: *const u8,
+            table_len: usize,
+            s: Settings,
+            slot: u64,
+            checked: bool,
+            key: *const u8,
+            key_len: usize,
+        ) -> Part;
         pub fn pyltarka_free_count(table: *const u8, table_len: usize, s: Settings) -> Counted;
     }
 }
@@ -88,7 +125,11 @@ pub fn call(table: &mut [u8], s: Settings, call: &Call) -> (Answer, Vec<u8>) {
         match call {
             Call::Insert { key, content, mark } => {
                 let r = pyltarka_insert(t, n, s, key.as_ptr(), key.len(), content.as_ptr(), content.len(), *mark);
-                if r.number == 0 { Answer::At(r.slot) } else { refused(r.number, r.slot == 0) }
+                if r.number == 0 {
+                    Answer::At(r.slot)
+                } else {
+                    refused(r.number, r.slot == 0)
+                }
             },
             Call::Replace { slot, key, content, mark } => {
                 written(pyltarka_replace(t, n, s, *slot, key.as_ptr(), key.len(), content.as_ptr(), content.len(), *mark))
@@ -123,7 +164,11 @@ pub fn call(table: &mut [u8], s: Settings, call: &Call) -> (Answer, Vec<u8>) {
             },
             Call::FreeCount => {
                 let r = pyltarka_free_count(t, n, s);
-                if r.number == 0 { Answer::Members(r.count) } else { refused(r.number, r.count == 0) }
+                if r.number == 0 {
+                    Answer::Members(r.count)
+                } else {
+                    refused(r.number, r.count == 0)
+                }
             },
         }
     };

@@ -107,13 +107,7 @@ impl Table {
         run(|| {
             let mut table = ValueTable::open(Arc::new(dir.to_path_buf()), id, size, &options, DB_VERSION)?;
             table.init_table_data()?;
-            Ok(Table {
-                table,
-                overlays: RwLock::new(LogOverlays::with_columns(1)),
-                path: dir.join(id.file_name()),
-                view: None,
-                len: 0,
-            })
+            Ok(Table { table, overlays: RwLock::new(LogOverlays::with_columns(1)), path: dir.join(id.file_name()), view: None, len: 0 })
         })
     }
 

@@ -79,7 +79,7 @@ impl LogQuery for LogWriter<'_> {
     where
         Self: 'b;
 
-    fn value_ref<'b>(&'b self, table: TableId, index: u64) -> Option<&'b [u8]> {
+    fn value_ref(&self, table: TableId, index: u64) -> Option<&[u8]> {
         self.entry(table, index)
     }
 

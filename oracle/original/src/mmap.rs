@@ -65,12 +65,13 @@ impl Mmap {
         Ok(Mmap { at: at as *mut u8, len })
     }
 
+    #[allow(clippy::len_without_is_empty)]
     pub fn len(&self) -> usize {
         self.len
     }
 
     fn inside(&self, offset: usize, len: usize) {
-        if !offset.checked_add(len).is_some_and(|end| end <= self.len) {
+        if offset.checked_add(len).is_none_or(|end| end > self.len) {
             std::panic::panic_any(Stopped::PastFile);
         }
     }

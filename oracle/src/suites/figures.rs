@@ -5,7 +5,7 @@ use crate::{
     make,
     model::{self, Answer, Call, Reading, Settings},
 };
-use std::path::PathBuf;
+use std::path::Path;
 
 const PLAIN: Settings = Settings { size: 32, multipart: false, counted: false, keyed: false };
 const FULL: Settings = Settings { size: 64, multipart: false, counted: true, keyed: true };
@@ -20,8 +20,8 @@ fn refused(n: u32) -> Answer {
 }
 
 /// Runs calls with the answers that 01 gives; the table afterwards.
-fn play(folder: &PathBuf, s: Settings, table: Vec<u8>, calls: &[(Call, Answer)], tally: &mut Tally) -> Result<Vec<u8>, String> {
-    let mut bench = Bench::new(folder.clone(), s, table, Reading::Right);
+fn play(folder: &Path, s: Settings, table: Vec<u8>, calls: &[(Call, Answer)], tally: &mut Tally) -> Result<Vec<u8>, String> {
+    let mut bench = Bench::new(folder.to_path_buf(), s, table, Reading::Right);
     for (call, want) in calls {
         let got = bench.step(call)?;
         if got != *want {
@@ -39,13 +39,13 @@ fn bytes(got: &[u8], want: &[u8], what: &str) -> Result<(), String> {
     Ok(())
 }
 
-type Figure = (&'static str, fn(&PathBuf, &mut Tally) -> Result<(), String>);
+type Figure = (&'static str, fn(&Path, &mut Tally) -> Result<(), String>);
 
 pub const FIGURES: [Figure; 9] = [
     ("insert 41 42, then remove 1, whole table", |folder, tally| {
         let content = vec![0x41, 0x42];
         let first = (Call::Insert { key: vec![], content, mark: false }, Answer::At(1));
-        let table = play(folder, PLAIN, vec![0; 64], &[first.clone()], tally)?;
+        let table = play(folder, PLAIN, vec![0; 64], std::slice::from_ref(&first), tally)?;
         let mut want = vec![0; 64];
         want[8] = 2;
         want[32..36].copy_from_slice(&[2, 0, 0x41, 0x42]);

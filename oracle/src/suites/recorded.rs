@@ -49,9 +49,7 @@ fn call(entry: Entry) -> Call {
     match entry {
         Entry::Table { .. } => unreachable!("a table is no call"),
         Entry::Insert { key: k, length, seed, mark } => Call::Insert { key: key(k), content: content(length, seed), mark },
-        Entry::Replace { slot, key: k, length, seed, mark } => {
-            Call::Replace { slot, key: key(k), content: content(length, seed), mark }
-        },
+        Entry::Replace { slot, key: k, length, seed, mark } => Call::Replace { slot, key: key(k), content: content(length, seed), mark },
         Entry::Remove { slot } => Call::Remove { slot },
         Entry::Change { slot, step } => Call::Change { slot, step },
         Entry::Read { slot, checked, key: k, room } => Call::Read { slot, checked, key: key(k), room },
@@ -76,10 +74,7 @@ fn asked(entry: Entry) -> Vec<u64> {
 
 fn entry(n: &[u64]) -> Entry {
     match n[0] {
-        0 => Entry::Table {
-            s: Settings { size: n[1], multipart: n[2] == 1, counted: n[3] == 1, keyed: n[4] == 1 },
-            length: n[5] as usize,
-        },
+        0 => Entry::Table { s: Settings { size: n[1], multipart: n[2] == 1, counted: n[3] == 1, keyed: n[4] == 1 }, length: n[5] as usize },
         1 => Entry::Insert { key: n[1], length: n[2] as usize, seed: n[3], mark: n[4] == 1 },
         2 => Entry::Replace { slot: n[1], key: n[2], length: n[3] as usize, seed: n[4], mark: n[5] == 1 },
         3 => Entry::Remove { slot: n[1] },
@@ -150,8 +145,24 @@ fn sample() -> Vec<Entry> {
     let s = Settings { size: 64, multipart: false, counted: true, keyed: true };
     all.push(Entry::Table { s, length: 200 });
     all.extend([insert(7, 32, 1, false), change(1, 4), change(1, -5), change(1, 0), change(1, -4), change(1, i32::MAX)]);
-    all.extend([change(1, i32::MIN), change(1, i32::MIN + 1), change(1, i32::MAX), change(1, i32::MAX), change(1, -1), change(1, i32::MIN)]);
-    all.extend([change(1, 1), read(1, 7, 40), read(1, 263, 32), read(1, 8, 32), read(1, 512, 32), read(1, 7, 31), change(0, 1), change(2, 1)]);
+    all.extend([
+        change(1, i32::MIN),
+        change(1, i32::MIN + 1),
+        change(1, i32::MAX),
+        change(1, i32::MAX),
+        change(1, -1),
+        change(1, i32::MIN),
+    ]);
+    all.extend([
+        change(1, 1),
+        read(1, 7, 40),
+        read(1, 263, 32),
+        read(1, 8, 32),
+        read(1, 512, 32),
+        read(1, 7, 31),
+        change(0, 1),
+        change(2, 1),
+    ]);
     all.extend([replace(1, 8, 31, 2, true), read(1, 8, 31), fetch(1, 31), remove(1), change(1, 1), insert(512, 1, 1, false)]);
     // Chains at and either side of each boundary, replaced by shorter and longer ones.
     for s in make::settings().into_iter().filter(|s| s.multipart) {
@@ -161,7 +172,15 @@ fn sample() -> Vec<Entry> {
         all.extend([insert(9, 8_172 - p, 3, false), insert(9, 8_173 - p, 4, false), fetch(5, 8_173)]);
         all.extend([remove(1), change(3, 3), replace(5, 10, 4_095 - p, 5, false), Entry::FreeCount]);
         all.extend([replace(3, 10, 12_259 - p, 6, true), read(3, 10, 12_259), replace(3, 9, 12_258 - p, 7, false), fetch(3, 12_258)]);
-        all.extend([insert(1, 16_345 - p, 8, false), fetch(4, 9), remove(4), change(4, 1), remove(3), remove(5), insert(1, 16_344 - p, 9, true)]);
+        all.extend([
+            insert(1, 16_345 - p, 8, false),
+            fetch(4, 9),
+            remove(4),
+            change(4, 1),
+            remove(3),
+            remove(5),
+            insert(1, 16_344 - p, 9, true),
+        ]);
         all.extend([fetch(5, 16_344), fetch(7, 16_344), Entry::ReadFixed { slot: 5, checked: false, key: 512 }, Entry::FreeCount]);
     }
     all
