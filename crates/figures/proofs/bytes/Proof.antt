@@ -4,10 +4,6 @@ use native.Mathlib.Omega.{arith}
 use borrow.Author.Needs.{needs}
 use Rattle.figures.proofs.bytes.Statement.{statement}
 use Rattle.figures.proofs.bytes.Tie as tie
-use Rattle.figures.proofs.bytes.Reads as reads
-use Rattle.figures.proofs.bytes.Lts as lts
-use Rattle.figures.proofs.word.Reads as word-reads
-use Rattle.io.proofs.print_hex.Reads as print-hex-reads
 
 abbrev Inv-loop : tie.InvT-loop
 Inv-loop b i₀ t3 i = i ≤ length b
@@ -15,43 +11,33 @@ Inv-loop b i₀ t3 i = i ≤ length b
 abbrev μ-loop : tie.MeasureT-loop
 μ-loop b i₀ t3 i = length b - i
 
--- src/main.rt:15:5
 loop-holds : tie.Need-loop-holds Inv-loop μ-loop
 loop-holds c = search needs
 
--- src/main.rt:16:14
 slice-aggregate-word : tie.Need-slice-aggregate-word Inv-loop μ-loop
 slice-aggregate-word c = search needs
 
--- src/main.rt:16:9
 word-requires : tie.Need-word-requires Inv-loop μ-loop
 word-requires c κs = search needs
 
--- src/main.rt:17:38
 shared-slice-read-print-hex : tie.Need-shared-slice-read-print-hex Inv-loop μ-loop
 shared-slice-read-print-hex c = search needs
 
--- src/main.rt:17:38
 cast-print-hex : tie.Need-cast-print-hex Inv-loop μ-loop
 cast-print-hex c = omega (arith, c .shared-slice-known2 .given (c .before .before .before .before .loop .i))
 
--- src/main.rt:17:9
 print-hex-requires : tie.Need-print-hex-requires Inv-loop μ-loop
 print-hex-requires c κs = search needs
 
--- src/main.rt:18:9
 add-i : tie.Need-add-i Inv-loop μ-loop
 add-i c = search needs
 
--- src/main.rt:15:5
 loop-less : tie.Need-loop-less Inv-loop μ-loop
 loop-less c = search needs
 
--- src/main.rt:15:5
 loop-again : tie.Need-loop-again Inv-loop μ-loop
 loop-again c = search needs
 
--- src/main.rt:13:1
 returns : tie.Need-returns Inv-loop μ-loop
 returns c = search needs
 
