@@ -1,0 +1,4 @@
+-- Demand 3 said of the code, and tightness. What is promised: Histories, Tight. Performed is what both speak of.
+pub mod Performed
+pub mod Histories
+pub mod Tight
