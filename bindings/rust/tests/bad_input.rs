@@ -474,7 +474,8 @@ fn damage(rng: &mut Random, table: &mut Vec<u8>, s: Shape) {
         1 => rng.next() >> rng.below(64),
         _ => rng.below(slots + 1),
     };
-    let slot = rng.below(slots);
+    // Slot 0 has faults of its own.
+    let slot = if slots > 1 { 1 + rng.below(slots - 1) } else { 0 };
     let at = (slot * s.entry_size) as usize;
     let mut put = |at: usize, bytes: &[u8]| {
         if let Some(place) = table.get_mut(at..at + bytes.len()) {
@@ -489,8 +490,11 @@ fn damage(rng: &mut Random, table: &mut Vec<u8>, s: Shape) {
         1 | 2 => put(0, &link.to_le_bytes()),
         3 => put(8, &rng.near(slots).to_le_bytes()),
         4..=6 => {
-            let i = rng.index(table.len());
-            table[i] ^= 1 << rng.below(8);
+            // Half of them among a slot's first bytes, where marks, sizes, links, counts and keys stand.
+            let i = if rng.yes(2) { rng.index(table.len()) } else { at + rng.index(50) };
+            if let Some(b) = table.get_mut(i) {
+                *b ^= 1 << rng.below(8);
+            }
         }
         7..=12 => put(at, &rng.pick(&[[0xff, 0xff], [0xfe, 0xff], [0xfd, 0xff], [0xfd, 0x7f], [0xff, 0x7f], [0xfe, 0x7f]])),
         13..=16 => {
@@ -541,7 +545,7 @@ fn damage_in_place(rng: &mut Random, table: &mut Vec<u8>, s: Shape) {
 #[test]
 fn sound_tables_take_any_call() {
     let mut run = Run::new("sound_tables_take_any_call", 1);
-    let calls = setting("PYLTARKA_CASES", 40_000);
+    let calls = setting("PYLTARKA_CASES", 30_000);
     while run.calls < calls {
         let s = good_shape(&mut run.rng);
         let mut table = sound_table(&mut run.rng, s);
@@ -567,7 +571,7 @@ fn sound_tables_take_any_call() {
 #[test]
 fn damaged_tables_get_the_first_fault_met() {
     let mut run = Run::new("damaged_tables_get_the_first_fault_met", 2);
-    let calls = setting("PYLTARKA_CASES", 120_000);
+    let calls = setting("PYLTARKA_CASES", 80_000);
     while run.calls < calls {
         let made = good_shape(&mut run.rng);
         let mut table = if run.rng.yes(3) { patchwork(&mut run.rng, made) } else { sound_table(&mut run.rng, made) };
@@ -587,7 +591,7 @@ fn damaged_tables_get_the_first_fault_met() {
 #[test]
 fn any_bytes_are_a_table() {
     let mut run = Run::new("any_bytes_are_a_table", 3);
-    let calls = setting("PYLTARKA_CASES", 40_000);
+    let calls = setting("PYLTARKA_CASES", 30_000);
     while run.calls < calls {
         let s = good_shape(&mut run.rng);
         let len = match run.rng.below(4) {
@@ -613,7 +617,7 @@ fn any_bytes_are_a_table() {
 #[test]
 fn any_settings_get_an_answer() {
     let mut run = Run::new("any_settings_get_an_answer", 4);
-    let calls = setting("PYLTARKA_CASES", 40_000);
+    let calls = setting("PYLTARKA_CASES", 30_000);
     while run.calls < calls {
         let made = good_shape(&mut run.rng);
         let mut table = sound_table(&mut run.rng, made);
@@ -682,7 +686,48 @@ fn each_cut_and_each_flipped_bit_of_a_small_table() {
     run.finish(&[], 0);
 }
 
-/// Every slot, and every step at the limits against every count at the limits.
+/// Two chains and two free slots: every bit of the bytes before the content flipped, in every slot, and every link to every slot.
+#[test]
+fn each_flipped_bit_and_each_link_of_two_chains() {
+    let mut run = Run::new("each_flipped_bit_and_each_link_of_two_chains", 8);
+    let s = Shape { entry_size: 4096, multipart: true, counted: true, keyed: true };
+    let key = [0x41; 32];
+    let long: Vec<u8> = (0..12_000).map(|i| (i % 251) as u8).collect();
+    let mut table = vec![0; 9 * 4096];
+    for n in [9_000, 8_142, 4_065] {
+        model::insert(&mut table, s, &key, &long[..n], false).unwrap();
+    }
+    model::remove(&mut table, s, 6).unwrap();
+    let calls = [
+        Call::Insert { key: key.to_vec(), content: long.clone(), mark: true },
+        Call::Replace { slot: 1, key: key.to_vec(), content: long[..5_000].to_vec(), mark: true },
+        Call::Replace { slot: 4, key: key.to_vec(), content: long.clone(), mark: false },
+        Call::Remove { slot: 1 },
+        Call::Change { slot: 4, step: -1 },
+        Call::Read { slot: 1, checked: true, key: key.to_vec(), output: vec![7; 9_100] },
+        Call::FreeCount,
+    ];
+    for call in &calls {
+        for slot in 0..8 {
+            for bit in 0..8 * 48 {
+                let mut flipped = table.clone();
+                flipped[slot * 4096 + bit / 8] ^= 1 << (bit % 8);
+                run.compare(&mut flipped, s, call);
+            }
+            for link in 0..10_u64 {
+                for at in [0, 2, 8, 10] {
+                    let mut linked = table.clone();
+                    let at = slot * 4096 + at;
+                    linked[at..at + 8].copy_from_slice(&link.to_le_bytes());
+                    run.compare(&mut linked, s, call);
+                }
+            }
+        }
+    }
+    run.finish(&[("replace", &[0, 3, 8, 9, 10, 11]), ("remove", &[0, 3, 8, 9, 10, 11]), ("read", &[0, 3, 8, 9, 10])], 10);
+}
+
+/// Every step at the limits against every count at the limits.
 #[test]
 fn each_step_at_the_limits() {
     let mut run = Run::new("each_step_at_the_limits", 7);
