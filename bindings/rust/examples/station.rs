@@ -175,11 +175,13 @@ fn morning(table: &mut Table) -> Result<(), Refusal> {
     let part = table.read_fixed(slots[5], Some(&again.key()))?;
     println!("       slot 6  {}", told(part.content));
 
-    step("09:00", "Three reports cite the reverse in slot 5, so its count goes up; then they are withdrawn.");
+    step("09:00", "Three reports cite the reverse in slot 5, so its count goes up; then all let go of it, the station too.");
     for change in [3, 0, -1, -3] {
         match table.change_count(slots[4], change)? {
             Changed::Count(n) => println!("       step {change:>2}: count {n}"),
-            Changed::LastReference => println!("       step {change:>2}: last reference. Nothing is written; the station may remove the record"),
+            Changed::LastReference => {
+                println!("       step {change:>2}: last reference. Nothing is written; the station may remove the record")
+            }
         }
     }
 
@@ -215,7 +217,10 @@ fn captures() -> Result<(), Refusal> {
     }
     map(table.view());
 
-    step("11:40", "Run-up 1 taken again, shorter and compressed: the chain keeps its first slots and frees the one left over.");
+    step(
+        "11:40",
+        "Run-up 1 taken again, shorter and marked compressed: the chain keeps its first slots and frees the one left over.",
+    );
     table.replace(1, &first, &run_up(2_500), true)?;
     let r = table.read(1, Some(&first), &mut output)?;
     let whole = output[..r.len] == run_up(2_500);

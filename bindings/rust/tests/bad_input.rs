@@ -254,19 +254,23 @@ impl Run {
         self.desk.key.lay(key, places[1]);
         self.desk.content.lay(content, places[2]);
         self.desk.output.lay(call.output(), places[3]);
-        let s = Settings {
-            entry_size: shape.entry_size,
-            multipart: shape.multipart,
-            counted: shape.counted,
-            keyed: shape.keyed,
-        };
+        let s = Settings { entry_size: shape.entry_size, multipart: shape.multipart, counted: shape.counted, keyed: shape.keyed };
         let null = self.rng.yes(2);
         let answer = self.desk.call(call, s, null);
 
         let before = table.clone();
         let mut output = call.output().to_vec();
         let expected = call.by_model(table, shape, &mut output);
-        let here = || format!("{}: seed {}, call {}: {shape:?}, {} on {} bytes", self.name, self.seed, self.calls, call.name(), before.len());
+        let here = || {
+            format!(
+                "{}: seed {}, call {}: {shape:?}, {} on {} bytes",
+                self.name,
+                self.seed,
+                self.calls,
+                call.name(),
+                before.len()
+            )
+        };
         assert_eq!(answer, expected, "answer; {}\n{call:?}", here());
         assert!(self.desk.table.bytes() == table.as_slice(), "table; {}\n{call:?}", here());
         assert!(self.desk.output.bytes() == output.as_slice(), "output; {}\n{call:?}", here());

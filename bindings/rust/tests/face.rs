@@ -51,9 +51,13 @@ fn thirty_two_bytes_fit_a_counted_keyed_slot_of_64() {
 #[test]
 fn chains_have_the_parts_and_last_words_of_the_figures() {
     let s = Settings::multipart().counted().keyed();
-    for (len, parts, last_word) in
-        [(4_065, 2, Some([0x11, 0])), (8_142, 2, Some([0xfe, 0x0f])), (8_143, 3, Some([9, 0])), (12_228, 3, None), (12_229, 4, None)]
-    {
+    for (len, parts, last_word) in [
+        (4_065, 2, Some([0x11, 0])),
+        (8_142, 2, Some([0xfe, 0x0f])),
+        (8_143, 3, Some([9, 0])),
+        (12_228, 3, None),
+        (12_229, 4, None),
+    ] {
         let mut bytes = fresh(s, 8);
         let mut table = Table::new(&mut bytes, s);
         assert_eq!(table.insert(&KEY, &vec![5; 4_064], false), Err(Refusal::Value));
@@ -216,7 +220,10 @@ fn empty_tables_keys_contents_and_outputs_get_answers() {
 fn structs_lie_as_the_header_has_them() {
     assert_eq!((size_of::<Settings>(), offset_of!(Settings, multipart), offset_of!(Settings, keyed)), (16, 8, 10));
     assert_eq!((size_of::<ffi::Inserted>(), offset_of!(ffi::Inserted, number)), (16, 8));
-    assert_eq!((size_of::<ffi::Changed>(), offset_of!(ffi::Changed, count), offset_of!(ffi::Changed, last_reference)), (12, 4, 8));
+    assert_eq!(
+        (size_of::<ffi::Changed>(), offset_of!(ffi::Changed, count), offset_of!(ffi::Changed, last_reference)),
+        (12, 4, 8)
+    );
     assert_eq!((size_of::<ffi::Record>(), offset_of!(ffi::Record, number), offset_of!(ffi::Record, mark)), (32, 16, 24));
     assert_eq!((size_of::<ffi::Part>(), offset_of!(ffi::Part, number), offset_of!(ffi::Part, mark)), (40, 24, 32));
     assert_eq!((size_of::<ffi::Counted>(), offset_of!(ffi::Counted, number)), (16, 8));
