@@ -2,8 +2,8 @@ use Prim.Native.Nat.{_≤_, _-_}
 use lib.ListN.{length}
 use native.Mathlib.Omega.{arith}
 use borrow.Author.Needs.{needs}
-use Rattle.figures.proofs.bytes.Statement.{statement}
-use Rattle.figures.proofs.bytes.Tie as tie
+use Rattle.figures.proofs.printing.bytes.Statement.{statement}
+use Rattle.figures.proofs.printing.bytes.Tie as tie
 
 abbrev Inv-loop : tie.InvT-loop
 Inv-loop b i₀ t3 i = i ≤ length b
