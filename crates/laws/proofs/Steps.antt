@@ -92,15 +92,16 @@ unfolding freeEach freeOne
 freed [] free F = refl
 freed (x ∷ l) free F = freed l (x ∷ free) F
 
--- n parts written over the old chain, and what is left over of it freed: the new slots, the free list and FILLED afterwards
+-- n parts written over the old chain, and what is left over of it freed from its first part to its last: the new slots, the free list and
+-- FILLED afterwards
 pub steps : (n : ℕ) (old free : List ℕ) (F : ℕ) → (useSlots n old (record { free = free; filled = F }) .0 ≡ newSlots old free F n)
-    × (freeEach (leftOver old n) (useSlots n old (record { free = free; filled = F }) .1) ≡ record { free = freeAfter old free n; filled = filledAfter old free F n })
-unfolding freeAfter
+    × (freeEach (drop n old) (useSlots n old (record { free = free; filled = F }) .1) ≡ record { free = freeAfter old free n; filled = filledAfter old free F n })
+unfolding freeAfter leftOver
 steps n old free F =
     let r = used n old free F in (
       r .0,
-      ap (freeEach (leftOver old n)) (r .1) ∙ freed (leftOver old n) (freeLeft old free n) (filledAfter old free F n)
-          ∙ ap (λ (l : List ℕ). pool l (filledAfter old free F n)) (reverseAux-eq (leftOver old n) (freeLeft old free n)),
+      ap (freeEach (drop n old)) (r .1) ∙ freed (drop n old) (freeLeft old free n) (filledAfter old free F n)
+          ∙ ap (λ (l : List ℕ). pool l (filledAfter old free F n)) (reverseAux-eq (drop n old) (freeLeft old free n)),
     )
 
 -- the stores of freed slots

@@ -80,6 +80,11 @@ pub key-unchecked : (s : Settings) (checked : Bool) (key : List ℕ) → checked
 unfolding checkedKeyTest refuse
 key-unchecked s checked key c = rw c refl
 
+-- no key is asked for
+pub key-unasked : (s : Settings) → checkedKeyTest s none ≡ 0
+unfolding checkedKeyTest
+key-unasked s = refl
+
 -- ---- a record
 
 module _ (s : Settings) (t : List ℕ) (h : ℕ) (key : Option (List ℕ)) where

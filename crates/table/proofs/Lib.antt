@@ -4,3 +4,5 @@ pub mod CheckLaws
 pub mod ReadLaws
 pub mod StepLaws
 pub mod CountLaws
+pub mod ValueLaws
+pub mod RoomLaws

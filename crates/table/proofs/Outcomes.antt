@@ -1,5 +1,5 @@
 -- What a call leaves: where a test refuses, its number and what was there; where all pass, what it does.
-use mathlib.Core.Path.{_≡_, refl}
+use mathlib.Core.Path.{_≡_, refl, _∙_}
 use Prim.Native.Nat.{ℕ, zero, suc, _<_}
 use native.Mathlib.Omega.{arith}
 use Rattle.definition.specs.Answers.{Answer, refusal}
@@ -13,6 +13,10 @@ refuses (suc n) m old out e h = rw e refl
 pub accepts : {X : Type 0} (m : ℕ) (old : X) (out : Answer × X) → m ≡ 0 → out ≡ unless m old out
 unfolding unless
 accepts m old out e = rw e refl
+
+-- what was done is what the call does where all pass
+pub accepts-to : {X : Type 0} {done out : Answer × X} (m : ℕ) (old : X) → done ≡ out → m ≡ 0 → done ≡ unless m old out
+accepts-to m old d e = d ∙ accepts m old _ e
 
 pub answer-refuses : (n m : ℕ) (a : Answer) → m ≡ n → 0 < n → refusal n ≡ answerUnless m a
 unfolding answerUnless

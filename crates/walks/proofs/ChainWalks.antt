@@ -147,9 +147,11 @@ one-part : (s : Settings) (f : View) (F h : ℕ) → 2 ≤ s .size → length (f
 unfolding walk bodyOf sizedBody
 one-part s f F h lo w g m n q =
     let is : walk s f F h ≡ whole (h ∷ []) = cond-no (s .multipart) _ _ m in
-    let l : length (sizedBody (f h)) ≡ sizeOf (f h) = length-part (f h) 2 (sizeOf (f h)) (omega (arith, size-fits s (f h) m g)) in
-    (ap (λ (v : Walk). v .fault) is, sym (ap (λ (v : Walk). length (v .slots)) is),
-    sym (ap (λ (v : Walk). length (bodyOf s f (v .slots))) is ∙ ap length (cond-no (s .multipart) _ _ m) ∙ l ∙ sym q))
+    let l : length (sizedBody (f h)) ≡ sizeOf (f h) = length-part (f h) 2 (sizeOf (f h)) (omega (arith, size-fits s (f h) m g)) in (
+      ap (λ (v : Walk). v .fault) is,
+      sym (ap (λ (v : Walk). length (v .slots)) is),
+      sym (ap (λ (v : Walk). length (bodyOf s f (v .slots))) is ∙ ap length (cond-no (s .multipart) _ _ m) ∙ l ∙ sym q),
+    )
 
 -- a plain slot is a chain of one part
 pub plain-chain : (s : Settings) (f : View) (F h : ℕ) (k : PartKind) (n : ℕ) → 2 ≤ s .size → length (f h) ≡ s .size → part k n ≡ startPart s (f h) → headFault s none 8 (f h) ≡ 0

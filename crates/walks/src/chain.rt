@@ -14,11 +14,9 @@ ghost use mathlib.Core.Bool.{Bool, true, false};
 ghost use mathlib.Core.Option.{none};
 ghost use Prim.Native.Nat.{_-_, _*_, _≤_, _<_};
 ghost use lib.ListN.{length};
-
 ghost use Rattle.definition.specs.Settings.{badSettings, headOverhead};
 ghost use Rattle.definition.specs.Slots.{view, headLink, filled as filledOf};
 ghost use Rattle.definition.specs.Chains.{part, headFault, startPart, partsFrom, walk};
-
 ghost use Rattle.definition.specs.Calls.{checkedKeyTest, checkedKey};
 ghost use Rattle.walks.specs.Met.{restIs, chainIs, chainTested};
 

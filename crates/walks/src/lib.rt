@@ -1,7 +1,7 @@
 // Walks over several slots: the free list, the parts of a chain, and the copy of a chain's content. Nothing here writes a table.
-pub mod free_list;
 pub mod chain;
 pub mod content;
+pub mod free_list;
 
 use definition::Refusal;
 

@@ -1,51 +1,38 @@
-use Rattle.table.proofs.CheckLaws.{has-slot, bad-settings, no-capacity, bad-header, good-table}
-use Rattle.laws.proofs.Sizes.{sizes}
 use native.Mathlib.Omega.{arith}
 use denote.Ref.{now}
 use mathlib.Core.Path.{sym, _∙_}
 use borrow.Author.Needs.{needs}
+use Rattle.table.proofs.CheckLaws.{has-slot, bad-settings, no-capacity, bad-header, good-table}
+use Rattle.laws.proofs.Sizes.{sizes}
 use Rattle.table.proofs.checks.check_table.Statement.{statement}
 use Rattle.table.proofs.checks.check_table.Tie as tie
-use Rattle.table.proofs.checks.check_table.Reads as reads
-use Rattle.table.proofs.checks.check_table.Lts as lts
-use Rattle.slots.proofs.header.header_bad.Reads as header-bad-reads
-use Rattle.slots.proofs.header.read_header.Reads as read-header-reads
-use Rattle.slots.proofs.settings.settings_bad.Reads as settings-bad-reads
 
--- src/checks.rt:27:8
 settings-bad-requires : tie.Need-settings-bad-requires
 settings-bad-requires c κs = search needs
 
--- src/checks.rt:28:9
 returns : tie.Need-returns
 returns c =
     bad-settings (c .before .before .before .args .s) (now (c .before .before .before .args .table)) (sym (c .before .settings-bad .ensures) ∙ c .if1 .taken)
 
--- src/checks.rt:30:20
 div-capacity : tie.Need-div-capacity
 div-capacity c =
     let z = sizes (c .before .before .before .before .args .s) (sym (c .before .before .settings-bad .ensures) ∙ c .before .if1 .left) in omega arith
 
--- src/checks.rt:32:9
 returns-2 : tie.Need-returns-2
 returns-2 c =
     no-capacity (c .before .before .before .before .before .args .s) (now (c .before .before .before .before .before .args .table)) (sym (c .before .before .before .settings-bad .ensures) ∙ c .before .before .if1 .left) (c .if2 .taken)
 
--- src/checks.rt:34:9
 read-header-requires : tie.Need-read-header-requires
 read-header-requires c κs =
     (sym (c .before .before .before .settings-bad .ensures) ∙ c .before .before .if1 .left, has-slot _ _ (c .if2 .left))
 
--- src/checks.rt:35:8
 header-bad-requires : tie.Need-header-bad-requires
 header-bad-requires c κs = search needs
 
--- src/checks.rt:36:9
 returns-3 : tie.Need-returns-3
 returns-3 c =
     bad-header (c .before .before .before .before .before .before .before .before .args .s) (now (c .before .before .before .before .before .before .before .before .args .table)) (sym (c .before .before .before .before .before .before .settings-bad .ensures) ∙ c .before .before .before .before .before .if1 .left) (c .before .before .before .if2 .left) (c .before .before .read-header .result) (c .before .before .read-header .ensures) (c .before .header-bad .result) (c .before .header-bad .ensures) (c .if3 .taken)
 
--- src/checks.rt:24:1
 returns-4 : tie.Need-returns-4
 returns-4 c =
     good-table (c .before .before .before .before .before .before .before .before .args .s) (now (c .before .before .before .before .before .before .before .before .args .table)) (sym (c .before .before .before .before .before .before .settings-bad .ensures) ∙ c .before .before .before .before .before .if1 .left) (c .before .before .before .if2 .left) (c .before .before .read-header .result) (c .before .before .read-header .ensures) (c .before .header-bad .result) (c .before .header-bad .ensures) (c .if3 .left)

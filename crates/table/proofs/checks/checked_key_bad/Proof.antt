@@ -1,22 +1,16 @@
-use Rattle.table.proofs.CheckLaws.{key-checked, key-unchecked}
 use denote.Ref.{now}
 use borrow.Author.Needs.{needs}
+use Rattle.table.proofs.CheckLaws.{key-checked, key-unchecked}
 use Rattle.table.proofs.checks.checked_key_bad.Statement.{statement}
 use Rattle.table.proofs.checks.checked_key_bad.Tie as tie
-use Rattle.table.proofs.checks.checked_key_bad.Reads as reads
-use Rattle.table.proofs.checks.checked_key_bad.Lts as lts
-use Rattle.table.proofs.checks.key_bad.Reads as key-bad-reads
 
--- src/checks.rt:57:9
 key-bad-requires : tie.Need-key-bad-requires
 key-bad-requires c κs = search needs
 
--- src/checks.rt:57:9
 returns : tie.Need-returns
 returns c =
     key-checked (c .before .before .before .args .s) (c .before .before .before .args .checked) (now (c .before .before .before .args .key)) (c .key-bad .result) (c .before .if1 .taken) (c .key-bad .ensures)
 
--- src/checks.rt:53:1
 returns-2 : tie.Need-returns-2
 returns-2 c =
     key-unchecked (c .before .before .args .s) (c .before .before .args .checked) (now (c .before .before .args .key)) (c .if1 .left)

@@ -1,17 +1,13 @@
-use Rattle.table.proofs.CheckLaws.{keyed-bad}
 use denote.Ref.{now}
 use borrow.Author.Needs.{needs}
+use Rattle.table.proofs.CheckLaws.{keyed-bad}
 use Rattle.table.proofs.checks.key_bad.Statement.{statement}
 use Rattle.table.proofs.checks.key_bad.Tie as tie
-use Rattle.table.proofs.checks.key_bad.Reads as reads
-use Rattle.table.proofs.checks.key_bad.Lts as lts
 
--- src/checks.rt:46:9
 returns : tie.Need-returns
 returns c =
     keyed-bad (c .before .args .s) (now (c .before .args .key)) (c .if1 .taken)
 
--- src/checks.rt:42:1
 returns-2 : tie.Need-returns-2
 returns-2 c = search needs
 

@@ -1,22 +1,17 @@
-use Rattle.definition.specs.Answers.{found, foundOf}
+use Prim.Native.Nat.{ℕ, _-_}
+use native.Mathlib.Omega.{arith}
+use denote.Ref.{now}
+use mathlib.Core.Path.{ap, _∙_, subst}
+use borrow.Author.Needs.{needs}
+use Rattle.definition.specs.Answers.{foundOf}
 use Rattle.definition.specs.declared.Record.{Record}
 use Rattle.definition.specs.declared.Found.{Found}
-use Prim.Native.Nat.{ℕ, _-_}
 use Rattle.table.proofs.ReadLaws.{Readable, readable, fixed-multi, fixed-refused, fixed-found}
 use Rattle.table.specs.Stages.{recordIs}
 use Rattle.walks.specs.declared.Walked.{Walked}
 use Rattle.definition.specs.Calls.{checkedKey}
-use native.Mathlib.Omega.{arith}
-use denote.Ref.{now}
-use mathlib.Core.Path.{sym, ap, _∙_, subst}
-use borrow.Author.Needs.{needs}
 use Rattle.table.proofs.reading.find_fixed.Statement.{statement}
 use Rattle.table.proofs.reading.find_fixed.Tie as tie
-use Rattle.table.proofs.reading.find_fixed.Reads as reads
-use Rattle.table.proofs.reading.find_fixed.Lts as lts
-use Rattle.slots.proofs.settings.prefix_len.Reads as prefix-len-reads
-use Rattle.table.proofs.checks.check_record.Reads as check-record-reads
-use Rattle.table.proofs.reading.record_at.Reads as record-at-reads
 
 -- the checks passed, and this is the chain's extent
 met : (c : tie.After-x) → recordIs (Walked.Chain (c .x .given .0 .0)) (c .before .before .before .before .before .before .args .s) (now (c .before .before .before .before .before .before .args .table)) (c .before .before .before .before .before .before .args .slot) (checkedKey (c .before .before .before .before .before .before .args .checked) (now (c .before .before .before .before .before .before .args .key)))
@@ -25,44 +20,35 @@ met c = subst (λ (x : Walked). recordIs x (c .before .before .before .before .b
 can : (c : tie.After-x) → Readable (c .before .before .before .before .before .before .args .s) (now (c .before .before .before .before .before .before .args .table)) (c .before .before .before .before .before .before .args .slot) (c .x .given .0 .0)
 can c = readable (c .before .before .before .before .before .before .args .s) (now (c .before .before .before .before .before .before .args .table)) (c .before .before .before .before .before .before .args .slot) (checkedKey (c .before .before .before .before .before .before .args .checked) (now (c .before .before .before .before .before .before .args .key))) (c .x .given .0 .0) (met c)
 
--- src/reading.rt:65:9
 returns : tie.Need-returns
 returns c =
     fixed-multi (c .before .before .before .args .s) _ _ _ (c .if1 .taken)
 
--- src/reading.rt:67:11
 check-record-requires : tie.Need-check-record-requires
 check-record-requires c κs = search needs
 
--- src/reading.rt:68:25
 enum-known-r : tie.Need-enum-known-r
 enum-known-r c = search needs
 
--- src/reading.rt:69:23
 enum-known-x : tie.Need-enum-known-x
 enum-known-x c = search needs
 
--- src/reading.rt:70:33
 prefix-len-requires : tie.Need-prefix-len-requires
 prefix-len-requires c κs = search needs
 
--- src/reading.rt:70:23
 sub-len : tie.Need-sub-len
 sub-len c =
     omega (arith, can (c .before .before .before) .prefixed, c .before .prefix-len .ensures)
 
--- src/reading.rt:71:28
 record-at-requires : tie.Need-record-at-requires
 record-at-requires c κs =
     (can (c .before .before .before) .settings, can (c .before .before .before) .inside)
 
--- src/reading.rt:61:1
 returns-2 : tie.Need-returns-2
 returns-2 c =
     let A = c .before .before .before .before .before .before .before .args in
     fixed-refused (A .s) _ _ _ (c .before .before .before .before .if1 .left) (c .before .r .given .0 .0) (subst (λ (x : Walked). recordIs x (A .s) (now (A .table)) (A .slot) (checkedKey (A .checked) (now (A .key)))) (c .before .r .given .1) (c .before .before .before .check-record .ensures))
 
--- src/reading.rt:61:1
 returns-3 : tie.Need-returns-3
 returns-3 c =
     let A = c .before .before .before .before .before .before .before .before .before .before .args in

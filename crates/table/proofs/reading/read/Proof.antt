@@ -1,25 +1,17 @@
+use native.Mathlib.Omega.{arith}
+use denote.Ref.{now}
+use mathlib.Core.Path.{ap, _∙_, subst}
+use Prim.Native.Nat.{ℕ, _-_}
+use borrow.Author.Needs.{needs}
 use Rattle.table.proofs.ReadLaws.{Readable, readable, read-refused, read-short, copyable, read-done}
 use Rattle.table.specs.Stages.{recordIs}
 use Rattle.walks.specs.declared.Walked.{Walked}
 use Rattle.definition.specs.declared.Record.{Record}
 use Rattle.definition.specs.declared.Found.{Found}
-use Rattle.definition.specs.Answers.{Answer, found, foundOf}
-use Rattle.definition.specs.Settings.{prefixLen}
+use Rattle.definition.specs.Answers.{foundOf}
 use Rattle.definition.specs.Calls.{checkedKey}
-use native.Mathlib.Omega.{arith}
-use denote.Ref.{now}
-use mathlib.Core.List.{List}
-use mathlib.Core.Path.{_≡_, sym, ap, ap₂, _∙_, subst}
-use Prim.Native.Nat.{ℕ, _-_}
-use borrow.Author.Needs.{needs}
 use Rattle.table.proofs.reading.read.Statement.{statement}
 use Rattle.table.proofs.reading.read.Tie as tie
-use Rattle.table.proofs.reading.read.Reads as reads
-use Rattle.table.proofs.reading.read.Lts as lts
-use Rattle.slots.proofs.settings.prefix_len.Reads as prefix-len-reads
-use Rattle.table.proofs.checks.check_record.Reads as check-record-reads
-use Rattle.table.proofs.reading.record_at.Reads as record-at-reads
-use Rattle.walks.proofs.content.copy_content.Reads as copy-content-reads
 
 -- the checks passed, and this is the chain's extent
 met : (c : tie.After-x) → recordIs (Walked.Chain (c .x .given .0 .0)) (c .before .before .before .before .before .before .args .s) (now (c .before .before .before .before .before .before .args .table)) (c .before .before .before .before .before .before .args .slot) (checkedKey (c .before .before .before .before .before .before .args .checked) (now (c .before .before .before .before .before .before .args .key)))
@@ -28,54 +20,43 @@ met c = subst (λ (x : Walked). recordIs x (c .before .before .before .before .b
 can : (c : tie.After-x) → Readable (c .before .before .before .before .before .before .args .s) (now (c .before .before .before .before .before .before .args .table)) (c .before .before .before .before .before .before .args .slot) (c .x .given .0 .0)
 can c = readable (c .before .before .before .before .before .before .args .s) (now (c .before .before .before .before .before .before .args .table)) (c .before .before .before .before .before .before .args .slot) (checkedKey (c .before .before .before .before .before .before .args .checked) (now (c .before .before .before .before .before .before .args .key))) (c .x .given .0 .0) (met c)
 
--- src/reading.rt:47:11
 check-record-requires : tie.Need-check-record-requires
 check-record-requires c κs = search needs
 
--- src/reading.rt:48:25
 enum-known-r : tie.Need-enum-known-r
 enum-known-r c = search needs
 
--- src/reading.rt:49:23
 enum-known-x : tie.Need-enum-known-x
 enum-known-x c = search needs
 
--- src/reading.rt:50:33
 prefix-len-requires : tie.Need-prefix-len-requires
 prefix-len-requires c κs = search needs
 
--- src/reading.rt:50:23
 sub-len : tie.Need-sub-len
 sub-len c =
     omega (arith, can (c .before .before .before) .prefixed, c .before .prefix-len .ensures)
 
--- src/reading.rt:52:17
 returns : tie.Need-returns
 returns c =
     read-short _ _ _ _ _ (c .before .before .before .before .x .given .0 .0) (met (c .before .before .before .before)) _ (ap (λ (n : ℕ). c .before .before .before .before .x .given .0 .0 .bytes - n) (c .before .before .prefix-len .ensures)) (c .if1 .taken)
 
--- src/reading.rt:54:13
 copy-content-requires : tie.Need-copy-content-requires
 copy-content-requires c κs =
     copyable _ _ _ _ _ (c .before .before .before .before .before .x .given .0 .0) (met (c .before .before .before .before .before)) _ (ap (λ (n : ℕ). c .before .before .before .before .before .x .given .0 .0 .bytes - n) (c .before .before .before .prefix-len .ensures)) (c .before .if1 .left)
 
--- src/reading.rt:55:28
 record-at-requires : tie.Need-record-at-requires
 record-at-requires c κs =
     (can (c .before .before .before .before .before .before .before .before) .settings, can (c .before .before .before .before .before .before .before .before) .inside)
 
--- src/reading.rt:37:1
 returns-2 : tie.Need-returns-2
 returns-2 c =
     let A = c .before .before .before .before .before .before .before .args in
     read-refused _ _ _ _ _ (c .before .r .given .0 .0) (subst (λ (x : Walked). recordIs x (A .s) (now (A .table)) (A .slot) (checkedKey (A .checked) (now (A .key)))) (c .before .r .given .1) (c .before .before .before .check-record .ensures))
 
--- src/reading.rt:37:1
 same-length : tie.Need-same-length
 same-length c =
     search needs
 
--- src/reading.rt:37:1
 returns-3 : tie.Need-returns-3
 returns-3 c =
     ap (λ (r : Record). (foundOf (Found.Content r), c .before .before .before .copy-content .last .1 .1 .1 .1 .1 .0)) (c .record-at .ensures)

@@ -1,60 +1,45 @@
-use Rattle.laws.proofs.Views.{part-view, lent-length}
-use Rattle.laws.proofs.Sizes.{sizes}
-use Rattle.definition.specs.Slots.{markOf, countOf}
 use native.Mathlib.Omega.{arith}
 use denote.Ref.{now}
 use mathlib.Core.Path.{_∙_, ap}
 use borrow.Author.Needs.{needs}
+use Rattle.laws.proofs.Views.{part-view, lent-length}
+use Rattle.laws.proofs.Sizes.{sizes}
+use Rattle.definition.specs.Slots.{markOf, countOf}
 use Rattle.table.proofs.reading.record_at.Statement.{statement}
 use Rattle.table.proofs.reading.record_at.Tie as tie
-use Rattle.table.proofs.reading.record_at.Reads as reads
-use Rattle.table.proofs.reading.record_at.Lts as lts
-use Rattle.slots.proofs.reader.read_compressed.Reads as read-compressed-reads
-use Rattle.slots.proofs.reader.read_count.Reads as read-count-reads
 
--- src/reading.rt:26:13
 mul-a : tie.Need-mul-a
 mul-a c = search needs
 
--- src/reading.rt:27:13
 add-z : tie.Need-add-z
 add-z c = search needs
 
--- src/reading.rt:30:31
 sub-read-compressed : tie.Need-sub-read-compressed
 sub-read-compressed c = search needs
 
--- src/reading.rt:30:31
 part-read-compressed-start : tie.Need-part-read-compressed-start
 part-read-compressed-start c = search needs
 
--- src/reading.rt:30:31
 part-read-compressed-end : tie.Need-part-read-compressed-end
 part-read-compressed-end c = search needs
 
--- src/reading.rt:30:15
 read-compressed-requires : tie.Need-read-compressed-requires
 read-compressed-requires c κs =
     let z = sizes (c .before .before .before .before .args .s) (c .before .before .before .before .pre .0) in omega (arith, lent-length (c .before .before .before .before .args .s .size) (c .before .before .before .before .args .slot) (now (c .before .before .before .before .args .table)) (c .before .before .before .before .pre .1))
 
--- src/reading.rt:31:27
 sub-read-count : tie.Need-sub-read-count
 sub-read-count c = search needs
 
--- src/reading.rt:31:27
 part-read-count-start : tie.Need-part-read-count-start
 part-read-count-start c = search needs
 
--- src/reading.rt:31:27
 part-read-count-end : tie.Need-part-read-count-end
 part-read-count-end c = search needs
 
--- src/reading.rt:31:16
 read-count-requires : tie.Need-read-count-requires
 read-count-requires c κs =
     let z = sizes (c .before .before .before .before .before .before .args .s) (c .before .before .before .before .before .before .pre .0) in omega (arith, lent-length (c .before .before .before .before .before .before .args .s .size) (c .before .before .before .before .before .before .args .slot) (now (c .before .before .before .before .before .before .args .table)) (c .before .before .before .before .before .before .pre .1))
 
--- src/reading.rt:22:1
 returns : tie.Need-returns
 returns c =
     let A = c .before .before .before .before .before .before .before .args in

@@ -1,67 +1,92 @@
+use mathlib.Core.Option.{none}
+use mathlib.Core.Path.{_∙_, subst}
+use native.Mathlib.Omega.{arith}
+use denote.Ref.{now}
 use borrow.Author.Needs.{needs}
+use Rattle.table.proofs.CheckLaws.{key-unasked, filled-inside}
+use Rattle.laws.proofs.Starts.{filled-pos}
+use Rattle.table.proofs.RoomLaws.{list-is}
+use Rattle.walks.specs.Met.{freeIs, chainTested}
+use Rattle.walks.specs.declared.Walked.{Walked}
+use Rattle.definition.specs.declared.FreeCount.{FreeCount}
+use Rattle.definition.specs.FreeList.{freeList}
+use Rattle.table.specs.Stages.{openedIs}
+use Rattle.laws.proofs.Tests.{number-some, first-refuse-all, first-past, first-one, first-refuses}
+use Rattle.table.specs.declared.checks.Opened.{Opened}
+use Rattle.definition.specs.Tests.{numberOf}
+use Rattle.definition.specs.Slots.{view}
 use Rattle.table.proofs.writing.check_remove.Statement.{statement}
 use Rattle.table.proofs.writing.check_remove.Tie as tie
-use Rattle.table.proofs.writing.check_remove.Reads as reads
-use Rattle.table.proofs.writing.check_remove.Lts as lts
-use Rattle.table.proofs.checks.check_table.Reads as check-table-reads
-use Rattle.walks.proofs.chain.check_chain.Reads as check-chain-reads
-use Rattle.walks.proofs.free_list.check_free_refs.Reads as check-free-refs-reads
 
--- src/writing.rt:232:11
+-- what the table's checks say where they find r
+abbrev Opens : tie.After-check-table → Opened → Type 0
+Opens c r = openedIs r (c .before .before .args .s) (now (c .before .before .args .table))
+
+-- what the chain's say
+abbrev Chains : tie.After-check-chain → Walked → Type 0
+Chains c r = chainTested r (c .before .before .before .before .before .before .before .args .s) (view (c .before .before .before .before .before .before .before .args .s .size) (now (c .before .before .before .before .before .before .before .args .table))) (c .before .before .before .before .before .before .before .args .slot) none
+
+-- what the free list's walk says
+abbrev Frees : tie.After-check-free-refs → FreeCount → Type 0
+Frees c r = freeIs r (freeList (view (c .before .before .before .before .before .before .before .before .before .before .args .s .size) (now (c .before .before .before .before .before .before .before .before .before .before .args .table))))
+
+opened-is : (c : tie.After-known-told2) → Opens (c .before .before .before) (Opened.Table (c .before .h .given .0 .0))
+opened-is c = subst (Opens (c .before .before .before)) (c .before .h .given .1) (c .before .before .before .check-table .ensures)
+
+walked-is : (c : tie.After-enum-told) → Chains (c .before .before) (Walked.Chain (c .enum-told .given .0 .0))
+walked-is c = subst (Chains (c .before .before)) (c .enum-told .given .1) (c .before .before .check-chain .ensures)
+
+frees : (c : tie.After-check-free-refs) → Frees c (c .check-free-refs .result)
+frees c = subst (freeIs (c .check-free-refs .result)) (list-is (c .before .before .before .before .before .before .before .before .before .before .args .s) (now (c .before .before .before .before .before .before .before .before .before .before .args .table)) _ (opened-is (c .before .before .before .before .before) .1)) (c .check-free-refs .ensures)
+
 check-table-requires : tie.Need-check-table-requires
 check-table-requires c κs = search needs
 
--- src/writing.rt:233:25
 enum-known-r : tie.Need-enum-known-r
 enum-known-r c = search needs
 
--- src/writing.rt:234:23
 enum-known-h : tie.Need-enum-known-h
 enum-known-h c = search needs
 
--- src/writing.rt:234:80
 slice-aggregate-check-chain : tie.Need-slice-aggregate-check-chain
 slice-aggregate-check-chain c = search needs
 
--- src/writing.rt:234:35
 check-chain-requires : tie.Need-check-chain-requires
-check-chain-requires c κs = ?
+check-chain-requires c κs =
+    let t = filled-inside (c .before .before .before .before .before .before .args .s) (now (c .before .before .before .before .before .before .args .table)) _ (opened-is (c .before)) in (t .0, t .1, t .2, key-unasked (c .before .before .before .before .before .before .args .s))
 
--- src/writing.rt:235:29
 enum-known-r-2 : tie.Need-enum-known-r-2
 enum-known-r-2 c = search needs
 
--- src/writing.rt:236:39
 enum-told : tie.Need-enum-told
 enum-told c = search needs
 
--- src/writing.rt:236:39
 check-free-refs-requires : tie.Need-check-free-refs-requires
-check-free-refs-requires c κs = ?
+check-free-refs-requires c κs =
+    let t = filled-inside (c .before .before .before .before .before .before .before .before .before .args .s) (now (c .before .before .before .before .before .before .before .before .before .args .table)) _ (opened-is (c .before .before .before .before)) in
+    (t .0, t .1, omega (arith, t .2, filled-pos (view (c .before .before .before .before .before .before .before .before .before .args .s .size) (now (c .before .before .before .before .before .before .before .before .before .args .table)))))
 
--- src/writing.rt:237:36
 enum-known-r-3 : tie.Need-enum-known-r-3
 enum-known-r-3 c = search needs
 
--- src/writing.rt:238:42
 enum-told-2 : tie.Need-enum-told-2
 enum-told-2 c = search needs
 
--- src/writing.rt:229:1
 returns : tie.Need-returns
-returns c = ?
+returns c =
+    first-refuse-all (numberOf (c .before .r .given .0 .0)) _ _ (subst (Opens (c .before .before .before)) (c .before .r .given .1) (c .before .before .before .check-table .ensures)) (number-some (c .before .r .given .0 .0))
 
--- src/writing.rt:229:1
 returns-2 : tie.Need-returns-2
-returns-2 c = ?
+returns-2 c =
+    first-past _ _ (opened-is (c .before .before .before .before .before) .0) ∙ first-refuse-all (numberOf (c .before .r2 .given .0 .0)) _ _ (subst (Chains (c .before .before .before)) (c .before .r2 .given .1) (c .before .before .before .check-chain .ensures)) (number-some (c .before .r2 .given .0 .0))
 
--- src/writing.rt:229:1
 returns-3 : tie.Need-returns-3
-returns-3 c = ?
+returns-3 c =
+    first-past _ _ (opened-is (c .before .before .before .before .before .before .before .before) .0) ∙ first-past _ _ (walked-is (c .before .before .before .before) .0) ∙ first-refuses (numberOf (c .before .r3 .given .0 .0)) _ _ (subst (Frees (c .before .before .before)) (c .before .r3 .given .1) (frees (c .before .before .before))) (number-some (c .before .r3 .given .0 .0))
 
--- src/writing.rt:229:1
 returns-4 : tie.Need-returns-4
-returns-4 c = ?
+returns-4 c =
+    first-past _ _ (opened-is (c .before .before .before .before .before .before .before) .0) ∙ first-past _ _ (walked-is (c .before .before .before) .0) ∙ first-one _ ∙ subst (Frees (c .before .before)) (c .enum-told2 .given .1) (frees (c .before .before)) .0
 
 pub check-remove-spec : {M : Type 1} → statement M
 check-remove-spec =

@@ -1,42 +1,45 @@
+use mathlib.Core.Path.{subst}
+use denote.Ref.{now}
 use borrow.Author.Needs.{needs}
+use Rattle.table.specs.Stages.{testedIs, insertTests}
+use Rattle.definition.specs.declared.Written.{Written}
+use Rattle.definition.specs.Calls.{insert}
+use Rattle.table.proofs.Outcomes.{refuses}
+use Rattle.laws.proofs.Tests.{number-some}
 use Rattle.table.proofs.writing.insert.Statement.{statement}
 use Rattle.table.proofs.writing.insert.Tie as tie
-use Rattle.table.proofs.writing.insert.Reads as reads
-use Rattle.table.proofs.writing.insert.Lts as lts
-use Rattle.table.proofs.writing.check_insert.Reads as check-insert-reads
-use Rattle.table.proofs.writing.write_new.Reads as write-new-reads
 
--- src/writing.rt:160:11
+-- what the checks say where they find r
+abbrev Tested : tie.After-check-insert → Written → Type 0
+Tested c r = testedIs r (insertTests (c .before .before .before .before .before .args .s) (now (c .before .before .before .before .before .args .key)) (now (c .before .before .before .before .before .args .content)) (now (c .before .before .before .before .before .args .table)))
+
 check-insert-requires : tie.Need-check-insert-requires
 check-insert-requires c κs = search needs
 
--- src/writing.rt:161:26
 enum-known-r : tie.Need-enum-known-r
 enum-known-r c = search needs
 
--- src/writing.rt:162:53
 enum-told : tie.Need-enum-told
 enum-told c = search needs
 
--- src/writing.rt:162:43
 write-new-requires : tie.Need-write-new-requires
-write-new-requires c κs = ?
+write-new-requires c κs =
+    record { tests = subst (Tested (c .before .before .before)) (c .before .enum-told .given .1) (c .before .before .before .check-insert .ensures) }
 
--- src/writing.rt:157:1
 same-length : tie.Need-same-length
 same-length c = search needs
 
--- src/writing.rt:157:1
 returns : tie.Need-returns
-returns c = ?
+unfolding insert
+returns c =
+    refuses _ _ _ _ (subst (Tested (c .before .before .before)) (c .before .r .given .1) (c .before .before .before .check-insert .ensures)) (number-some (c .before .r .given .0 .0))
 
--- src/writing.rt:157:1
 same-length-2 : tie.Need-same-length-2
 same-length-2 c = search needs
 
--- src/writing.rt:157:1
 returns-2 : tie.Need-returns-2
-returns-2 c = search needs
+returns-2 c =
+    c .before .before .write-new .ensures
 
 pub insert-spec : {M : Type 1} → statement M
 insert-spec =

@@ -1,61 +1,65 @@
+use Prim.Native.Nat.{_+_, _-_}
+use borrow.Author.Tests.{not-true, not-false}
+use native.Mathlib.Omega.{arith}
+use native.Mathlib.Nat.{div-le-self}
 use borrow.Author.Needs.{needs}
+use Rattle.table.proofs.ValueLaws.{parts-fixed, parts-two, parts-more}
+use Rattle.laws.proofs.Overheads.{head-is}
+use Rattle.laws.proofs.Sizes.{sizes}
 use Rattle.table.proofs.writing.parts_needed.Statement.{statement}
 use Rattle.table.proofs.writing.parts_needed.Tie as tie
-use Rattle.table.proofs.writing.parts_needed.Reads as reads
-use Rattle.table.proofs.writing.parts_needed.Lts as lts
-use Rattle.slots.proofs.settings.head_overhead.Reads as head-overhead-reads
 
--- src/writing.rt:66:9
 returns : tie.Need-returns
-returns c = ?
+returns c =
+    λ b l. parts-fixed (c .before .before .args .s) b _ l (not-true (c .before .before .args .s .multipart) (c .if1 .taken))
 
--- src/writing.rt:68:30
 head-overhead-requires : tie.Need-head-overhead-requires
 head-overhead-requires c κs = search needs
 
--- src/writing.rt:68:21
 sub-rest : tie.Need-sub-rest
-sub-rest c = ?
+sub-rest c =
+    let z = sizes (c .before .before .before .before .args .s) (c .before .before .before .before .pre .0) in omega (arith, c .before .head-overhead .ensures, head-is (c .before .before .before .before .args .s))
 
--- src/writing.rt:68:16
 sub-rest-2 : tie.Need-sub-rest-2
-sub-rest-2 c = ?
+sub-rest-2 c =
+    let z = sizes (c .before .before .before .before .args .s) (c .before .before .before .before .pre .0) in
+    omega (arith, c .before .head-overhead .ensures, head-is (c .before .before .before .before .args .s), c .before .before .before .before .pre .1 (not-false (c .before .before .before .before .args .s .multipart) (c .before .before .if1 .left)))
 
--- src/writing.rt:69:16
 sub-if2 : tie.Need-sub-if2
-sub-if2 c = ?
+sub-if2 c =
+    let z = sizes (c .before .before .before .before .before .args .s) (c .before .before .before .before .before .pre .0) in omega arith
 
--- src/writing.rt:70:9
 returns-2 : tie.Need-returns-2
-returns-2 c = ?
+returns-2 c =
+    let z = sizes (c .before .before .before .before .before .before .args .s) (c .before .before .before .before .before .before .pre .0) in
+    λ b l. parts-two (c .before .before .before .before .before .before .args .s) b _ l (not-false (c .before .before .before .before .before .before .args .s .multipart) (c .before .before .before .before .if1 .left)) (omega arith) _ (c .before .before .before .head-overhead .ensures) (omega (arith, c .before .before .before .head-overhead .ensures, head-is (c .before .before .before .before .before .before .args .s))) (c .if2 .taken)
 
--- src/writing.rt:72:26
 add-full : tie.Need-add-full
 add-full c = search needs
 
--- src/writing.rt:72:16
 sub-full : tie.Need-sub-full
-sub-full c = ?
+sub-full c =
+    let z = sizes (c .before .before .before .before .before .before .before .args .s) (c .before .before .before .before .before .before .before .pre .0) in omega arith
 
--- src/writing.rt:73:15
 add-result : tie.Need-add-result
 add-result c = search needs
 
--- src/writing.rt:73:7
 sub-result : tie.Need-sub-result
-sub-result c = ?
+sub-result c =
+    let z = sizes (c .before .before .before .before .before .before .before .args .s) (c .before .before .before .before .before .before .before .pre .0) in omega (arith, c .before .if2 .left)
 
--- src/writing.rt:73:6
 div-result : tie.Need-div-result
-div-result c = ?
+div-result c =
+    let z = sizes (c .before .before .before .before .before .before .before .args .s) (c .before .before .before .before .before .before .before .pre .0) in omega arith
 
--- src/writing.rt:73:6
 add-result-2 : tie.Need-add-result-2
-add-result-2 c = ?
+add-result-2 c =
+    omega (arith, div-le-self (c .before .before .before .before .before .before .before .args .n - (c .before .before .before .before .before .before .before .args .s .size - c .before .before .before .before .head-overhead .result) - (8 + 1)) (c .before .before .before .before .before .before .before .args .s .size - (2 + 8)), c .before .before .before .before .before .before .before .fits .n)
 
--- src/writing.rt:61:1
 returns-3 : tie.Need-returns-3
-returns-3 c = ?
+returns-3 c =
+    let z = sizes (c .before .before .before .before .before .before .before .args .s) (c .before .before .before .before .before .before .before .pre .0) in
+    λ b l. parts-more (c .before .before .before .before .before .before .before .args .s) b _ l (not-false (c .before .before .before .before .before .before .before .args .s .multipart) (c .before .before .before .before .before .if1 .left)) (omega arith) _ (c .before .before .before .before .head-overhead .ensures) (omega (arith, c .before .before .before .before .head-overhead .ensures, head-is (c .before .before .before .before .before .before .before .args .s))) (c .before .if2 .left)
 
 pub parts-needed-spec : {M : Type 1} → statement M
 parts-needed-spec =

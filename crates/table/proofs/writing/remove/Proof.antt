@@ -1,42 +1,45 @@
+use mathlib.Core.Path.{subst}
+use denote.Ref.{now}
 use borrow.Author.Needs.{needs}
+use Rattle.table.specs.Stages.{testedIs, removeTests}
+use Rattle.definition.specs.declared.Written.{Written}
+use Rattle.definition.specs.Calls.{remove}
+use Rattle.table.proofs.Outcomes.{refuses}
+use Rattle.laws.proofs.Tests.{number-some}
 use Rattle.table.proofs.writing.remove.Statement.{statement}
 use Rattle.table.proofs.writing.remove.Tie as tie
-use Rattle.table.proofs.writing.remove.Reads as reads
-use Rattle.table.proofs.writing.remove.Lts as lts
-use Rattle.table.proofs.writing.check_remove.Reads as check-remove-reads
-use Rattle.table.proofs.writing.free_chain.Reads as free-chain-reads
 
--- src/writing.rt:257:11
+-- what the checks say where they find r
+abbrev Tested : tie.After-check-remove → Written → Type 0
+Tested c r = testedIs r (removeTests (c .before .before .before .args .s) (c .before .before .before .args .slot) (now (c .before .before .before .args .table)))
+
 check-remove-requires : tie.Need-check-remove-requires
 check-remove-requires c κs = search needs
 
--- src/writing.rt:258:26
 enum-known-r : tie.Need-enum-known-r
 enum-known-r c = search needs
 
--- src/writing.rt:260:24
 enum-told : tie.Need-enum-told
 enum-told c = search needs
 
--- src/writing.rt:260:13
 free-chain-requires : tie.Need-free-chain-requires
-free-chain-requires c κs = ?
+free-chain-requires c κs =
+    record { tests = subst (Tested (c .before .before .before)) (c .before .enum-told .given .1) (c .before .before .before .check-remove .ensures) }
 
--- src/writing.rt:254:1
 same-length : tie.Need-same-length
 same-length c = search needs
 
--- src/writing.rt:254:1
 returns : tie.Need-returns
-returns c = ?
+unfolding remove
+returns c =
+    refuses _ _ _ _ (subst (Tested (c .before .before .before)) (c .before .r .given .1) (c .before .before .before .check-remove .ensures)) (number-some (c .before .r .given .0 .0))
 
--- src/writing.rt:254:1
 same-length-2 : tie.Need-same-length-2
 same-length-2 c = search needs
 
--- src/writing.rt:254:1
 returns-2 : tie.Need-returns-2
-returns-2 c = search needs
+returns-2 c =
+    c .before .before .free-chain .ensures
 
 pub remove-spec : {M : Type 1} → statement M
 remove-spec =

@@ -1,3 +1,9 @@
+use lib.ListN.{length}
+use denote.Ref.{now}
+use native.Mathlib.Omega.{arith}
+use mathlib.Core.Path.{_≡_, sym, ap, _∙_, subst}
+use Prim.Native.Nat.{ℕ, _+_, _*_, _≤_, _<_}
+use borrow.Author.Needs.{needs}
 use Rattle.walks.proofs.ChainWalks.{slot-zero, slot-above, head-refused, head-accepted, walk-decides}
 use Rattle.walks.specs.Met.{chainIs}
 use Rattle.laws.proofs.Views.{within, part-view}
@@ -5,18 +11,8 @@ use Rattle.definition.specs.Calls.{checkedKey}
 use Rattle.definition.specs.Answers.{parseOf}
 use Rattle.definition.specs.Chains.{headParse, walk, part}
 use Rattle.definition.specs.Slots.{view, filled}
-use lib.ListN.{length}
-use denote.Ref.{now}
-use native.Mathlib.Omega.{arith}
-use mathlib.Core.Path.{_≡_, sym, ap, _∙_, subst}
-use Prim.Native.Nat.{ℕ, _+_, _*_, _≤_, _<_}
-use borrow.Author.Needs.{needs}
 use Rattle.walks.proofs.chain.check_chain.Statement.{statement}
 use Rattle.walks.proofs.chain.check_chain.Tie as tie
-use Rattle.walks.proofs.chain.check_chain.Reads as reads
-use Rattle.walks.proofs.chain.check_chain.Lts as lts
-use Rattle.slots.proofs.reader.parse_head.Reads as parse-head-reads
-use Rattle.walks.proofs.chain.walk_chain.Reads as walk-chain-reads
 
 -- the slot lies within the table, below FILLED
 inside : (c : tie.Else2) → c .before .before .before .before .args .at * c .before .before .before .before .args .s .size + c .before .before .before .before .args .s .size ≤ length (now (c .before .before .before .before .args .table))
@@ -37,63 +33,50 @@ part-is : (c : tie.After-known-told2)
     ≡ headParse (c .before .before .before .before .before .before .before .before .before .before .before .args .s) (checkedKey (c .before .before .before .before .before .before .before .before .before .before .before .args .checked) (now (c .before .before .before .before .before .before .before .before .before .before .before .args .key))) 8 (view (c .before .before .before .before .before .before .before .before .before .before .before .args .s .size) (now (c .before .before .before .before .before .before .before .before .before .before .before .args .table)) (c .before .before .before .before .before .before .before .before .before .before .before .args .at))
 part-is c = sym (ap parseOf (c .before .kind .given .1)) ∙ parsed (c .before .before .before)
 
--- src/chain.rt:116:9
 returns : tie.Need-returns
 returns c =
     slot-zero _ _ _ _ (c .if1 .taken)
 
--- src/chain.rt:119:9
 returns-2 : tie.Need-returns-2
 returns-2 c =
     slot-above _ _ _ _ (subst (λ (n : ℕ). n ≤ c .before .before .before .before .args .at) (c .before .before .before .before .pre .2) (c .if2 .taken))
 
--- src/chain.rt:121:13
 mul-a : tie.Need-mul-a
 mul-a c =
     omega (arith, inside (c .before))
 
--- src/chain.rt:122:13
 add-z : tie.Need-add-z
 add-z c =
     omega (arith, inside (c .before .before))
 
--- src/chain.rt:123:22
 sub-parse-head : tie.Need-sub-parse-head
 sub-parse-head c = search needs
 
--- src/chain.rt:123:22
 part-parse-head-start : tie.Need-part-parse-head-start
 part-parse-head-start c = search needs
 
--- src/chain.rt:123:22
 part-parse-head-end : tie.Need-part-parse-head-end
 part-parse-head-end c =
     omega (arith, inside (c .before .before))
 
--- src/chain.rt:123:11
 parse-head-requires : tie.Need-parse-head-requires
 parse-head-requires c κs = search needs
 
--- src/chain.rt:124:25
 enum-known-r : tie.Need-enum-known-r
 enum-known-r c = search needs
 
--- src/chain.rt:125:22
 enum-known-kind : tie.Need-enum-known-kind
 enum-known-kind c = search needs
 
--- src/chain.rt:125:34
 walk-chain-requires : tie.Need-walk-chain-requires
 walk-chain-requires c κs =
     let a = head-accepted _ _ _ _ (c .before .before .before .before .before .before .before .before .if1 .left) (below (c .before .before .before .before .before .before .before)) _ _ (part-is c) in
     (c .before .before .before .before .before .before .before .before .before .before .before .pre .0, c .before .before .before .before .before .before .before .before .before .before .before .pre .1, omega (arith, c .before .before .before .before .before .before .before .before .if1 .left), c .before .before .before .before .before .before .before .if2 .left, a .0, a .1)
 
--- src/chain.rt:103:1
 returns-3 : tie.Need-returns-3
 returns-3 c =
     head-refused _ _ _ _ (c .before .before .before .before .before .before .before .before .if1 .left) (below (c .before .before .before .before .before .before .before)) (c .before .r .given .0 .0) (sym (ap parseOf (c .before .r .given .1)) ∙ parsed (c .before .before .before))
 
--- src/chain.rt:103:1
 returns-4 : tie.Need-returns-4
 returns-4 c =
     let A = c .before .before .before .before .before .before .before .before .before .before .before .before .args in

@@ -1,26 +1,20 @@
-use Rattle.walks.proofs.ChainWalks.{rest-fits, later-refused, wrong-total, whole-chain}
-use Rattle.walks.specs.Met.{restIs}
-use Rattle.walks.specs.declared.Walked.{Walked}
-use Rattle.laws.proofs.Overheads.{head-is}
-use Rattle.laws.proofs.Sizes.{sizes}
-use Rattle.laws.proofs.Views.{within, part-view, lent-length, length-view}
-use Rattle.definition.specs.Chains.{Walk, partsFrom, restBody}
 use mathlib.Core.Bool.{true}
-use Rattle.definition.specs.Slots.{view, headLink, markOf, totalOf}
-use Rattle.definition.specs.Settings.{headOverhead, prefixLen}
 use lib.ListN.{length}
 use denote.Ref.{now}
 use native.Mathlib.Omega.{arith}
 use mathlib.Core.Path.{_≡_, sym, ap, _∙_, subst}
-use Prim.Native.Nat.{ℕ, _-_, _*_, _+_, _≤_, _<_}
+use Prim.Native.Nat.{ℕ, _-_, _*_, _+_, _≤_}
 use borrow.Author.Needs.{needs}
+use Rattle.walks.proofs.ChainWalks.{rest-fits, later-refused, wrong-total, whole-chain}
+use Rattle.walks.specs.Met.{restIs}
+use Rattle.walks.specs.declared.Walked.{Walked}
+use Rattle.laws.proofs.Sizes.{sizes}
+use Rattle.laws.proofs.Views.{within, part-view, lent-length, length-view}
+use Rattle.definition.specs.Chains.{Walk, partsFrom, restBody}
+use Rattle.definition.specs.Slots.{view, headLink, markOf, totalOf}
+use Rattle.definition.specs.Settings.{headOverhead, prefixLen}
 use Rattle.walks.proofs.chain.walk_parts.Statement.{statement}
 use Rattle.walks.proofs.chain.walk_parts.Tie as tie
-use Rattle.walks.proofs.chain.walk_parts.Reads as reads
-use Rattle.walks.proofs.chain.walk_parts.Lts as lts
-use Rattle.slots.proofs.reader.read_total.Reads as read-total-reads
-use Rattle.slots.proofs.settings.prefix_len.Reads as prefix-len-reads
-use Rattle.walks.proofs.chain.walk_rest.Reads as walk-rest-reads
 
 -- the head's slot lies within the table
 inside : (c : tie.After-walk-rest) → c .before .before .args .at * c .before .before .args .s .size + c .before .before .args .s .size ≤ length (now (c .before .before .args .table))
@@ -53,79 +47,63 @@ numbers c = omega (arith, c .before .before .before .before .before .before .bef
 total : (c : tie.After-read-total) → c .read-total .result ≡ totalOf (view (c .before .before .before .before .before .before .before .before .before .before .before .args .s .size) (now (c .before .before .before .before .before .before .before .before .before .before .before .args .table)) (c .before .before .before .before .before .before .before .before .before .before .before .args .at))
 total c = c .read-total .ensures ∙ ap totalOf (part-view (c .before .before .before .before .before .before .before .before .before .before .before .args .s .size) (c .before .before .before .before .before .before .before .before .before .before .before .args .at) (now (c .before .before .before .before .before .before .before .before .before .before .before .args .table)))
 
--- src/chain.rt:73:11
 walk-rest-requires : tie.Need-walk-rest-requires
 walk-rest-requires c κs = search needs
 
--- src/chain.rt:74:25
 enum-known-r : tie.Need-enum-known-r
 enum-known-r c = search needs
 
--- src/chain.rt:75:23
 enum-known-rest : tie.Need-enum-known-rest
 enum-known-rest c = search needs
 
--- src/chain.rt:76:21
 mul-a : tie.Need-mul-a
 mul-a c =
     omega (arith, inside (c .before .before .before .before))
 
--- src/chain.rt:77:21
 add-z : tie.Need-add-z
 add-z c =
     omega (arith, inside (c .before .before .before .before .before))
 
--- src/chain.rt:78:25
 add-bytes : tie.Need-add-bytes
 add-bytes c =
     let f = fitting (c .before .before .before .before) in omega (arith, f .1, met (c .before .before .before .before) .2, c .before .before .before .before .before .before .before .before .pre .6)
 
--- src/chain.rt:79:25
 prefix-len-requires : tie.Need-prefix-len-requires
 prefix-len-requires c κs = search needs
 
--- src/chain.rt:79:17
 sub-if1 : tie.Need-sub-if1
 sub-if1 c =
     let z = sizes (c .before .before .before .before .before .before .before .before .before .args .s) (c .before .before .before .before .before .before .before .before .before .pre .0) in omega (arith, c .prefix-len .ensures, z .roomy (c .before .before .before .before .before .before .before .before .before .pre .4), c .before .before .before .before .before .before .before .before .before .pre .6)
 
--- src/chain.rt:79:61
 sub-read-total : tie.Need-sub-read-total
 sub-read-total c = search needs
 
--- src/chain.rt:79:61
 part-read-total-start : tie.Need-part-read-total-start
 part-read-total-start c = search needs
 
--- src/chain.rt:79:61
 part-read-total-end : tie.Need-part-read-total-end
 part-read-total-end c =
     omega (arith, inside (c .before .before .before .before .before .before .before))
 
--- src/chain.rt:79:50
 read-total-requires : tie.Need-read-total-requires
 read-total-requires c κs =
     let z = sizes (c .before .before .before .before .before .before .before .before .before .before .args .s) (c .before .before .before .before .before .before .before .before .before .before .pre .0) in omega (arith, lent-length (c .before .before .before .before .before .before .before .before .before .before .args .s .size) (c .before .before .before .before .before .before .before .before .before .before .args .at) (now (c .before .before .before .before .before .before .before .before .before .before .args .table)) (inside (c .before .before .before .before .before .before .before .before)))
 
--- src/chain.rt:80:17
 returns : tie.Need-returns
 returns c =
     let A = c .before .before .before .before .before .before .before .before .before .before .before .before .args in
     wrong-total (A .s) (view (A .s .size) (now (A .table))) (A .filled) (A .at) (c .before .before .before .before .before .before .before .before .before .before .before .before .pre .4) (length-view (A .s .size) (A .at) (now (A .table)) (inside (c .before .before .before .before .before .before .before .before .before .before))) (c .before .before .before .before .before .before .before .before .rest .given .0 .0) (met (c .before .before .before .before .before .before .before .before))
     (λ e. c .if1 .taken (numbers (c .before) ∙ e ∙ sym (total (c .before))))
 
--- src/chain.rt:83:24
 add-t16 : tie.Need-add-t16
 add-t16 c =
     let f = fitting (c .before .before .before .before .before .before .before .before .before) in omega (arith, f .0, met (c .before .before .before .before .before .before .before .before .before) .1, c .before .before .before .before .before .before .before .before .before .before .before .before .before .pre .3)
 
--- src/chain.rt:68:1
 returns-2 : tie.Need-returns-2
 returns-2 c =
     let A = c .before .before .before .before .before .args in
     later-refused (A .s) (view (A .s .size) (now (A .table))) (A .filled) (A .at) (c .before .before .before .before .before .pre .4) (c .before .r .given .0 .0) (subst (λ (x : Walked). restIs x (view (A .s .size) (now (A .table))) (rest (c .before .before .before))) (c .before .r .given .1) (walked (c .before .before .before)))
 
--- src/chain.rt:68:1
 returns-3 : tie.Need-returns-3
 returns-3 c =
     let A = c .before .before .before .before .before .before .before .before .before .before .before .before .before .args in

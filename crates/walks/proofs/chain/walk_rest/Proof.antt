@@ -1,28 +1,22 @@
-use Rattle.laws.proofs.Views.{length-view}
-use Rattle.definition.specs.Chains.{part}
-use Rattle.definition.specs.declared.Parsed.{Parsed}
-use Rattle.definition.specs.declared.PartKind.the-variants.{Continuation, Last}
-use Rattle.definition.specs.declared.PartKind.{PartKind}
-use Rattle.walks.proofs.WalkLaws.{held-most, held-more}
-use Rattle.definition.specs.Answers.{parseOf}
-use Rattle.definition.specs.Chains.{laterParse}
 use lib.Dec.{eqb}
-use Rattle.walks.proofs.WalkLaws.{Tallied, start, limit, unlinked, above, bad-part, no-head, last, turn}
-use Rattle.laws.proofs.Sizes.{sizes}
-use Rattle.laws.proofs.Views.{within, part-view, lent-length}
-use Rattle.definition.specs.Slots.{view}
 use lib.ListN.{length}
 use borrow.Author.Needs.{needs}
 use denote.Ref.{now}
 use native.Mathlib.Omega.{arith}
-use mathlib.Core.Bool.{Bool, true, false}
+use mathlib.Core.Bool.{Bool, true}
 use mathlib.Core.Path.{_≡_, sym, ap, _∙_}
-use Prim.Native.Nat.{ℕ, _-_, _*_, _+_, _≤_, _<_}
+use Prim.Native.Nat.{_-_, _*_, _+_, _≤_, _<_}
+use Rattle.laws.proofs.Views.{length-view, within, part-view, lent-length}
+use Rattle.definition.specs.Chains.{part, laterParse}
+use Rattle.definition.specs.declared.Parsed.{Parsed}
+use Rattle.definition.specs.declared.PartKind.the-variants.{Continuation, Last}
+use Rattle.definition.specs.declared.PartKind.{PartKind}
+use Rattle.walks.proofs.WalkLaws.{held-most, held-more, Tallied, start, limit, unlinked, above, bad-part, no-head, last, turn}
+use Rattle.definition.specs.Answers.{parseOf}
+use Rattle.laws.proofs.Sizes.{sizes}
+use Rattle.definition.specs.Slots.{view}
 use Rattle.walks.proofs.chain.walk_rest.Statement.{statement}
 use Rattle.walks.proofs.chain.walk_rest.Tie as tie
-use Rattle.walks.proofs.chain.walk_rest.Reads as reads
-use Rattle.walks.proofs.chain.walk_rest.Lts as lts
-use Rattle.slots.proofs.reader.read_next_part.Reads as read-next-part-reads
 
 abbrev Inv-loop : tie.InvT-loop
 Inv-loop table s filled start at₀ parts₀ bytes₀ at parts bytes =
@@ -55,130 +49,107 @@ ending : (c : tie.After-enum-told Inv-loop μ-loop) (mark : Bool)
     ≡ laterParse (c .before .before .before .before .before .before .before .before .before .before .before .before .before .before .args .s) mark (eqb (c .before .before .before .before .before .before .before .before .before .before .before .before .loop .parts) 0) (view (c .before .before .before .before .before .before .before .before .before .before .before .before .before .before .args .s .size) (now (c .before .before .before .before .before .before .before .before .before .before .before .before .before .before .args .table)) (c .before .before .before .before .before .before .before .before .before .before .before .before .loop .at))
 ending c mark = sym (ap parseOf (c .before .before .before .kind .given .1 ∙ ap (λ (k : PartKind). Parsed.Part k (c .before .before .before .kind .given .0 .1 .0)) (c .enum-told .given .1))) ∙ met (c .before .before .before .before .before) mark
 
--- src/chain.rt:31:5
 loop-holds : tie.Need-loop-holds Inv-loop μ-loop
 loop-holds c =
     (omega arith, omega arith, λ mark. start _ _ _ mark _)
 
--- src/chain.rt:31:19
 sub-loop : tie.Need-sub-loop Inv-loop μ-loop
 sub-loop c =
     omega (arith, c .before .before .pre .2)
 
--- src/chain.rt:33:13
 returns : tie.Need-returns Inv-loop μ-loop
 returns c =
     λ mark. unlinked _ _ _ _ mark _ _ _ (c .before .before .loop .inv .2 mark) (c .before .loop-test .taken) (c .if1 .taken)
 
--- src/chain.rt:36:13
 returns-2 : tie.Need-returns-2 Inv-loop μ-loop
 returns-2 c =
     λ mark. above _ _ _ _ mark _ _ _ (c .before .before .before .loop .inv .2 mark) (c .before .before .loop-test .taken) (c .if2 .taken)
 
--- src/chain.rt:38:17
 mul-a : tie.Need-mul-a Inv-loop μ-loop
 mul-a c =
     omega (arith, inside (c .before))
 
--- src/chain.rt:39:17
 add-z : tie.Need-add-z Inv-loop μ-loop
 add-z c =
     omega (arith, inside (c .before .before))
 
--- src/chain.rt:40:30
 sub-read-next-part : tie.Need-sub-read-next-part Inv-loop μ-loop
 sub-read-next-part c =
     omega arith
 
--- src/chain.rt:40:30
 part-read-next-part-start : tie.Need-part-read-next-part-start Inv-loop μ-loop
 part-read-next-part-start c =
     search needs
 
--- src/chain.rt:40:30
 part-read-next-part-end : tie.Need-part-read-next-part-end Inv-loop μ-loop
 part-read-next-part-end c =
     omega (arith, inside (c .before .before))
 
--- src/chain.rt:40:15
 read-next-part-requires : tie.Need-read-next-part-requires Inv-loop μ-loop
 read-next-part-requires c κs =
     (c .before .before .before .before .before .before .before .before .pre .0, lent-length (c .before .before .before .before .before .before .before .before .args .s .size) (c .before .before .before .before .before .before .loop .at) (now (c .before .before .before .before .before .before .before .before .args .table)) (inside (c .before .before .before)))
 
--- src/chain.rt:41:29
 enum-known-r : tie.Need-enum-known-r Inv-loop μ-loop
 enum-known-r c =
     search needs
 
--- src/chain.rt:42:17
 returns-3 : tie.Need-returns-3 Inv-loop μ-loop
 returns-3 c =
     λ mark. bad-part _ _ _ _ mark _ _ _ (c .before .before .before .before .before .before .before .before .before .before .loop .inv .2 mark) (c .before .before .before .before .before .before .before .before .before .loop-test .taken) (above-zero (c .before .before .before .before .before .before .before)) (c .before .before .before .before .before .before .before .if2 .left) (c .before .r .given .0 .0) (sym (ap parseOf (c .before .r .given .1)) ∙ met (c .before .before .before) mark)
 
--- src/chain.rt:44:26
 enum-known-kind : tie.Need-enum-known-kind Inv-loop μ-loop
 enum-known-kind c =
     search needs
 
--- src/chain.rt:45:40
 enum-known-kind-2 : tie.Need-enum-known-kind-2 Inv-loop μ-loop
 enum-known-kind-2 c =
     search needs
 
--- src/chain.rt:47:21
 add-bytes : tie.Need-add-bytes Inv-loop μ-loop
 add-bytes c =
     omega (arith, inside (c .before .before .before .before .before .before .before .before .before .before), c .before .before .before .before .before .before .before .before .before .before .before .before .before .loop .inv .1, held-most _ true _ _ _ _ (continuation c true), within (c .before .before .before .before .before .before .before .before .before .before .before .before .before .before .before .args .s .size) (c .before .before .before .before .before .before .before .before .before .before .before .before .before .loop .parts) (c .before .before .before .before .before .before .before .before .before .before .before .before .before .before .before .args .filled) _ (omega (arith, c .before .before .before .before .before .before .before .before .before .before .before .before .loop-test .taken)) (c .before .before .before .before .before .before .before .before .before .before .before .before .before .before .before .pre .1))
 
--- src/chain.rt:51:32
 enum-told : tie.Need-enum-told Inv-loop μ-loop
 enum-told c =
     search needs
 
--- src/chain.rt:51:32
 add-t23 : tie.Need-add-t23 Inv-loop μ-loop
 add-t23 c =
     omega (arith, c .before .before .before .before .before .before .before .before .before .before .before .loop-test .taken)
 
--- src/chain.rt:52:32
 add-t24 : tie.Need-add-t24 Inv-loop μ-loop
 add-t24 c =
     omega (arith, c .before .before .before .before .before .before .before .before .before .before .before .before .loop .inv .1, held-most _ true _ _ _ _ (ending c true), within (c .before .before .before .before .before .before .before .before .before .before .before .before .before .before .args .s .size) (c .before .before .before .before .before .before .before .before .before .before .before .before .loop .parts) (c .before .before .before .before .before .before .before .before .before .before .before .before .before .before .args .filled) _ (omega (arith, c .before .before .before .before .before .before .before .before .before .before .before .loop-test .taken)) (c .before .before .before .before .before .before .before .before .before .before .before .before .before .before .pre .1))
 
--- src/chain.rt:50:21
 returns-4 : tie.Need-returns-4 Inv-loop μ-loop
 returns-4 c =
     let z = sizes (c .before .before .before .before .before .before .before .before .before .before .before .before .before .before .args .s) (c .before .before .before .before .before .before .before .before .before .before .before .before .before .before .pre .0) in
     λ mark. last _ _ _ _ mark _ _ _ (c .before .before .before .before .before .before .before .before .before .before .before .before .loop .inv .2 mark) (c .before .before .before .before .before .before .before .before .before .before .before .loop-test .taken) (above-zero (c .before .before .before .before .before .before .before .before .before)) (c .before .before .before .before .before .before .before .before .before .if2 .left) _ _ (omega arith) (length-view (c .before .before .before .before .before .before .before .before .before .before .before .before .before .before .args .s .size) (c .before .before .before .before .before .before .before .before .before .before .before .before .loop .at) (now (c .before .before .before .before .before .before .before .before .before .before .before .before .before .before .args .table)) (inside (c .before .before .before .before .before .before .before .before .before))) (ending c mark)
 
--- src/chain.rt:56:44
 enum-told-2 : tie.Need-enum-told-2 Inv-loop μ-loop
 enum-told-2 c =
     search needs
 
--- src/chain.rt:56:21
 returns-5 : tie.Need-returns-5 Inv-loop μ-loop
 returns-5 c =
     λ mark. no-head _ _ _ _ mark _ _ _ (c .before .before .before .before .before .before .before .before .before .before .before .before .loop .inv .2 mark) (c .before .before .before .before .before .before .before .before .before .before .before .loop-test .taken) (above-zero (c .before .before .before .before .before .before .before .before .before)) (c .before .before .before .before .before .before .before .before .before .if2 .left) _ _ (sym (ap parseOf (c .before .before .before .kind .given .1 ∙ ap (λ (k : PartKind). Parsed.Part k (c .before .before .before .kind .given .0 .1 .0)) (c .enum-told2 .given .1))) ∙ met (c .before .before .before .before .before) mark)
 
--- src/chain.rt:60:9
 add-parts : tie.Need-add-parts Inv-loop μ-loop
 add-parts c =
     omega (arith, c .before .before .before .before .before .before .before .before .before .before .before .before .loop-test .taken)
 
--- src/chain.rt:31:5
 loop-less : tie.Need-loop-less Inv-loop μ-loop
 loop-less c =
     omega (arith, c .before .before .before .before .before .before .before .before .before .before .before .before .loop-test .taken)
 
--- src/chain.rt:31:5
 loop-again : tie.Need-loop-again Inv-loop μ-loop
 loop-again c =
-    let at = length-view (c .before .before .before .before .before .before .before .before .before .before .before .before .before .before .before .args .s .size) (c .before .before .before .before .before .before .before .before .before .before .before .before .before .loop .at) (now (c .before .before .before .before .before .before .before .before .before .before .before .before .before .before .before .args .table)) (inside (c .before .before .before .before .before .before .before .before .before .before)) in
-    (omega (arith, c .before .before .before .before .before .before .before .before .before .before .before .before .loop-test .taken), held-more (c .before .before .before .before .before .before .before .before .before .before .before .before .before .before .before .args .s .size) _ _ _ (c .before .before .before .before .before .before .before .before .before .before .before .before .before .loop .inv .1) (held-most _ true _ _ _ _ (continuation c true)),
-    λ mark. turn _ _ _ _ mark _ _ _ (c .before .before .before .before .before .before .before .before .before .before .before .before .before .loop .inv .2 mark) (c .before .before .before .before .before .before .before .before .before .before .before .before .loop-test .taken) (above-zero (c .before .before .before .before .before .before .before .before .before .before)) (c .before .before .before .before .before .before .before .before .before .before .if2 .left) _ _ at (continuation c mark))
+    let at = length-view (c .before .before .before .before .before .before .before .before .before .before .before .before .before .before .before .args .s .size) (c .before .before .before .before .before .before .before .before .before .before .before .before .before .loop .at) (now (c .before .before .before .before .before .before .before .before .before .before .before .before .before .before .before .args .table)) (inside (c .before .before .before .before .before .before .before .before .before .before)) in (
+      omega (arith, c .before .before .before .before .before .before .before .before .before .before .before .before .loop-test .taken),
+      held-more (c .before .before .before .before .before .before .before .before .before .before .before .before .before .before .before .args .s .size) _ _ _ (c .before .before .before .before .before .before .before .before .before .before .before .before .before .loop .inv .1) (held-most _ true _ _ _ _ (continuation c true)),
+      λ mark. turn _ _ _ _ mark _ _ _ (c .before .before .before .before .before .before .before .before .before .before .before .before .before .loop .inv .2 mark) (c .before .before .before .before .before .before .before .before .before .before .before .before .loop-test .taken) (above-zero (c .before .before .before .before .before .before .before .before .before .before)) (c .before .before .before .before .before .before .before .before .before .before .if2 .left) _ _ at (continuation c mark),
+    )
 
--- src/chain.rt:24:1
 returns-6 : tie.Need-returns-6 Inv-loop μ-loop
 returns-6 c =
     λ mark. limit _ _ _ _ mark _ _ _ (c .before .loop .inv .2 mark) (c .loop-test .left)

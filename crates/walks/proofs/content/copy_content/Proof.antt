@@ -1,25 +1,16 @@
-use Rattle.walks.proofs.StartCopies.{good-settings, start, copied, fits, rest-copying, starts-within}
-use Rattle.walks.specs.Spans.{startSpan, Copying}
-use Rattle.laws.proofs.Sizes.{prefix-most}
-use Rattle.laws.proofs.Views.{part-view, lent-length}
-use Rattle.definition.specs.Settings.{prefixLen}
-use Rattle.definition.specs.Slots.{view}
 use lib.ListN.{length}
 use denote.Ref.{now}
 use native.Mathlib.Omega.{arith}
-use mathlib.Core.List.{List}
-use mathlib.Core.Path.{_≡_, refl, sym, ap, _∙_}
-use Prim.Native.Nat.{ℕ, _+_, _*_, _-_, _≤_, min}
+use mathlib.Core.Path.{_≡_, ap, _∙_}
+use Prim.Native.Nat.{ℕ, _+_, _*_, _-_, _≤_}
 use borrow.Author.Needs.{needs}
+use Rattle.walks.proofs.StartCopies.{good-settings, start, copied, fits, rest-copying, starts-within}
+use Rattle.walks.specs.Spans.{startSpan, Copying}
+use Rattle.laws.proofs.Views.{part-view, lent-length}
+use Rattle.definition.specs.Settings.{prefixLen}
+use Rattle.definition.specs.Slots.{view}
 use Rattle.walks.proofs.content.copy_content.Statement.{statement}
 use Rattle.walks.proofs.content.copy_content.Tie as tie
-use Rattle.walks.proofs.content.copy_content.Reads as reads
-use Rattle.walks.proofs.content.copy_content.Lts as lts
-use Rattle.numbers.proofs.copy.Reads as copy-reads
-use Rattle.slots.proofs.settings.prefix_len.Reads as prefix-len-reads
-use Rattle.walks.proofs.content.copy_rest.Reads as copy-rest-reads
-use Rattle.walks.proofs.content.smaller.Reads as smaller-reads
-use Rattle.walks.proofs.content.start_span.Reads as start-span-reads
 
 span : (c : tie.After-start-span) → c .start-span .result ≡ startSpan (c .before .before .before .before .before .before .args .s) (view (c .before .before .before .before .before .before .args .s .size) (now (c .before .before .before .before .before .before .args .table)) (c .before .before .before .before .before .before .args .at))
 span c = c .start-span .ensures ∙ ap (startSpan (c .before .before .before .before .before .before .args .s)) (part-view (c .before .before .before .before .before .before .args .s .size) (c .before .before .before .before .before .before .args .at) (now (c .before .before .before .before .before .before .args .table)))
@@ -39,91 +30,72 @@ going : (c : tie.After-copy)
     × (length (c .copy .last .1 .1 .1 .0) ≡ length (now (c .before .before .before .before .before .before .before .before .before .before .before .before .before .args .out)))
 going c = rest-copying _ _ _ _ _ _ (c .before .before .before .before .before .before .before .before .before .before .before .before .before .pre) _ (span (c .before .before .before .before .before .before .before)) _ _ _ (skipped (c .before .before .before .before .before .before)) (c .before .before .before .before .before .smaller .ensures) (c .before .before .before .smaller2 .ensures) _ (c .copy .ensures)
 
--- src/content.rt:111:13
 mul-a : tie.Need-mul-a
 mul-a c =
     omega (arith, start _ _ _ _ _ _ (c .before .before .before .pre) .slot)
 
--- src/content.rt:112:13
 add-z : tie.Need-add-z
 add-z c =
     omega (arith, start _ _ _ _ _ _ (c .before .before .before .before .pre) .slot)
 
--- src/content.rt:113:24
 sub-start-span : tie.Need-sub-start-span
 sub-start-span c = search needs
 
--- src/content.rt:113:24
 part-start-span-start : tie.Need-part-start-span-start
 part-start-span-start c = search needs
 
--- src/content.rt:113:24
 part-start-span-end : tie.Need-part-start-span-end
 part-start-span-end c =
     omega (arith, start _ _ _ _ _ _ (c .before .before .before .before .pre) .slot)
 
--- src/content.rt:113:9
 start-span-requires : tie.Need-start-span-requires
 start-span-requires c κs =
     (good-settings _ _ _ _ _ _ (c .before .before .before .before .before .pre), lent-length (c .before .before .before .before .before .args .s .size) (c .before .before .before .before .before .args .at) (now (c .before .before .before .before .before .args .table)) (start _ _ _ _ _ _ (c .before .before .before .before .before .pre) .slot))
 
--- src/content.rt:114:16
 prefix-len-requires : tie.Need-prefix-len-requires
 prefix-len-requires c κs = search needs
 
--- src/content.rt:114:16
 add-skip : tie.Need-add-skip
 add-skip c =
     omega (arith, c .prefix-len .ensures, starts-within _ _ _ _ _ _ (c .before .before .before .before .before .before .before .pre))
 
--- src/content.rt:115:9
 smaller-requires : tie.Need-smaller-requires
 smaller-requires c κs = search needs
 
--- src/content.rt:116:21
 sub-smaller : tie.Need-sub-smaller
 sub-smaller c = search needs
 
--- src/content.rt:116:9
 smaller-requires-2 : tie.Need-smaller-requires-2
 smaller-requires-2 c κs = search needs
 
--- src/content.rt:117:17
 add-copy : tie.Need-add-copy
 add-copy c =
     omega (arith, within (c .before) .0)
 
--- src/content.rt:117:17
 add-copy-2 : tie.Need-add-copy-2
 add-copy-2 c =
     omega (arith, within (c .before) .0)
 
--- src/content.rt:117:5
 copy-requires : tie.Need-copy-requires
 copy-requires c κs =
     (omega (arith, within (c .before .before) .0), omega (arith, within (c .before .before) .1))
 
--- src/content.rt:118:33
 sub-copy-rest : tie.Need-sub-copy-rest
 sub-copy-rest c =
     omega (arith, within (c .before .before .before .before .before) .2)
 
--- src/content.rt:118:43
 sub-copy-rest-2 : tie.Need-sub-copy-rest-2
 sub-copy-rest-2 c =
     omega (arith, within (c .before .before .before .before .before) .3)
 
--- src/content.rt:118:5
 copy-rest-requires : tie.Need-copy-rest-requires
 copy-rest-requires c κs =
     (good-settings _ _ _ _ _ _ (c .before .before .before .before .before .before .before .before .before .before .before .before .before .before .before .before .pre), (copied _ _ _ _ _ _ (c .before .before .before .before .before .before .before .before .before .before .before .before .before .before .before .before .pre), going (c .before .before .before) .0))
 
--- src/content.rt:104:1
 same-length : tie.Need-same-length
 same-length c =
     search needs
 
--- src/content.rt:104:1
 returns : tie.Need-returns
 unfolding copied
 returns c =

@@ -1,21 +1,16 @@
-use Rattle.walks.proofs.CopyLaws.{done, next-part, fits, less, turn}
-use Rattle.walks.specs.Spans.{partSpan, Copying}
-use Rattle.laws.proofs.Views.{part-view, lent-length}
-use Rattle.definition.specs.Slots.{view}
 use lib.ListN.{length}
 use denote.Ref.{now}
 use borrow.Author.Needs.{needs}
 use native.Mathlib.Omega.{arith}
 use mathlib.Core.List.{List}
-use mathlib.Core.Path.{_≡_, refl, sym, ap, _∙_}
-use Prim.Native.Nat.{ℕ, _+_, _*_, _-_, _≤_, _<_, min}
+use mathlib.Core.Path.{_≡_, refl, ap, _∙_}
+use Prim.Native.Nat.{ℕ, _+_, _*_, _≤_}
+use Rattle.walks.proofs.CopyLaws.{done, next-part, fits, less, turn}
+use Rattle.walks.specs.Spans.{partSpan, Copying}
+use Rattle.laws.proofs.Views.{part-view, lent-length}
+use Rattle.definition.specs.Slots.{view}
 use Rattle.walks.proofs.content.copy_rest.Statement.{statement}
 use Rattle.walks.proofs.content.copy_rest.Tie as tie
-use Rattle.walks.proofs.content.copy_rest.Reads as reads
-use Rattle.walks.proofs.content.copy_rest.Lts as lts
-use Rattle.numbers.proofs.copy.Reads as copy-reads
-use Rattle.walks.proofs.content.part_span.Reads as part-span-reads
-use Rattle.walks.proofs.content.smaller.Reads as smaller-reads
 
 abbrev Inv-loop : tie.InvT-loop
 Inv-loop table s start from n out₀ to at₀ skip₀ left₀ pos₀ out at skip left pos =
@@ -43,103 +38,84 @@ within : (c : tie.After-smaller2 Inv-loop μ-loop)
 within c =
     fits _ _ _ _ _ _ _ _ (c .before .before .before .before .before .before .before .before .before .before .before .pre .0) (copying (c .before .before .before .before .before .before .before) (c .before .before .before .before .before .before .before .before .before .before .before .pre .1 .0) (c .before .before .before .before .before .before .before .before .before .before .before .pre .1 .1)) (c .before .before .before .before .before .before .before .loop-test .taken) _ (span (c .before .before .before)) _ _ (c .before .before .smaller .ensures) (c .smaller2 .ensures)
 
--- src/content.rt:89:5
 loop-holds : tie.Need-loop-holds Inv-loop μ-loop
 loop-holds c =
     (refl, λ T g. g)
 
--- src/content.rt:90:17
 mul-a : tie.Need-mul-a Inv-loop μ-loop
 mul-a c =
     omega (arith, inside (c .before))
 
--- src/content.rt:91:17
 add-z : tie.Need-add-z Inv-loop μ-loop
 add-z c =
     omega (arith, inside (c .before .before))
 
--- src/content.rt:92:27
 sub-part-span : tie.Need-sub-part-span Inv-loop μ-loop
 sub-part-span c =
     omega arith
 
--- src/content.rt:92:27
 part-part-span-start : tie.Need-part-part-span-start Inv-loop μ-loop
 part-part-span-start c =
     search needs
 
--- src/content.rt:92:27
 part-part-span-end : tie.Need-part-part-span-end Inv-loop μ-loop
 part-part-span-end c =
     omega (arith, inside (c .before .before))
 
--- src/content.rt:92:13
 part-span-requires : tie.Need-part-span-requires Inv-loop μ-loop
 part-span-requires c κs =
     (c .before .before .before .before .before .before .before .pre .0, lent-length (c .before .before .before .before .before .before .before .args .s .size) (c .before .before .before .before .loop .at) (now (c .before .before .before .before .before .before .before .args .table)) (inside (c .before .before .before)))
 
--- src/content.rt:93:13
 smaller-requires : tie.Need-smaller-requires Inv-loop μ-loop
 smaller-requires c κs =
     search needs
 
--- src/content.rt:94:25
 sub-smaller : tie.Need-sub-smaller Inv-loop μ-loop
 sub-smaller c =
     omega (arith, c .before .smaller .ensures)
 
--- src/content.rt:94:13
 smaller-requires-2 : tie.Need-smaller-requires-2 Inv-loop μ-loop
 smaller-requires-2 c κs =
     search needs
 
--- src/content.rt:95:21
 add-copy : tie.Need-add-copy Inv-loop μ-loop
 add-copy c =
     omega (arith, within (c .before) .0)
 
--- src/content.rt:95:21
 add-copy-2 : tie.Need-add-copy-2 Inv-loop μ-loop
 add-copy-2 c =
     omega (arith, within (c .before) .0)
 
--- src/content.rt:95:9
 copy-requires : tie.Need-copy-requires Inv-loop μ-loop
 copy-requires c κs =
     (omega (arith, within (c .before .before) .0), omega (arith, within (c .before .before) .1))
 
--- src/content.rt:97:9
 sub-skip : tie.Need-sub-skip Inv-loop μ-loop
 sub-skip c =
     omega (arith, within (c .before .before .before .before .before) .2)
 
--- src/content.rt:98:9
 sub-left : tie.Need-sub-left Inv-loop μ-loop
 sub-left c =
     omega (arith, within (c .before .before .before .before .before) .3)
 
--- src/content.rt:99:9
 add-pos : tie.Need-add-pos Inv-loop μ-loop
 add-pos c =
     omega (arith, within (c .before .before .before .before .before) .1, c .before .before .before .before .before .before .before .before .before .before .before .before .before .loop .inv .0, c .before .before .before .before .before .before .before .before .before .before .before .before .before .before .before .before .good .1 .1 .1 .1 .1 .0 .1)
 
--- src/content.rt:89:5
 loop-less : tie.Need-loop-less Inv-loop μ-loop
 loop-less c =
     less _ _ _ _ _ _ _ _ (c .before .before .before .before .before .before .before .before .before .before .before .before .before .before .before .before .pre .0) (copying (c .before .before .before .before .before .before .before .before .before .before .before .before) (c .before .before .before .before .before .before .before .before .before .before .before .before .before .before .before .before .pre .1 .0) (c .before .before .before .before .before .before .before .before .before .before .before .before .before .before .before .before .pre .1 .1)) (c .before .before .before .before .before .before .before .before .before .before .before .before .loop-test .taken) _ (span (c .before .before .before .before .before .before .before .before)) _ _ (c .before .before .before .before .before .before .before .smaller .ensures) (c .before .before .before .before .before .smaller2 .ensures)
 
--- src/content.rt:89:5
 loop-again : tie.Need-loop-again Inv-loop μ-loop
-loop-again c =
-    (turn _ _ _ _ _ _ _ _ (c .before .before .before .before .before .before .before .before .before .before .before .before .before .before .before .before .pre .0) (copying (c .before .before .before .before .before .before .before .before .before .before .before .before) (c .before .before .before .before .before .before .before .before .before .before .before .before .before .before .before .before .pre .1 .0) (c .before .before .before .before .before .before .before .before .before .before .before .before .before .before .before .before .pre .1 .1)) (c .before .before .before .before .before .before .before .before .before .before .before .before .loop-test .taken) _ (span (c .before .before .before .before .before .before .before .before)) _ _ (c .before .before .before .before .before .before .before .smaller .ensures) (c .before .before .before .before .before .smaller2 .ensures) _ (c .before .before .copy .ensures) .1 ∙ c .before .before .before .before .before .before .before .before .before .before .before .before .before .loop .inv .0,
-    λ T g. turn _ _ T _ _ _ _ _ (c .before .before .before .before .before .before .before .before .before .before .before .before .before .before .before .before .pre .0) (copying (c .before .before .before .before .before .before .before .before .before .before .before .before) T g) (c .before .before .before .before .before .before .before .before .before .before .before .before .loop-test .taken) _ (span (c .before .before .before .before .before .before .before .before)) _ _ (c .before .before .before .before .before .before .before .smaller .ensures) (c .before .before .before .before .before .smaller2 .ensures) _ (c .before .before .copy .ensures) .0)
+loop-again c = (
+  turn _ _ _ _ _ _ _ _ (c .before .before .before .before .before .before .before .before .before .before .before .before .before .before .before .before .pre .0) (copying (c .before .before .before .before .before .before .before .before .before .before .before .before) (c .before .before .before .before .before .before .before .before .before .before .before .before .before .before .before .before .pre .1 .0) (c .before .before .before .before .before .before .before .before .before .before .before .before .before .before .before .before .pre .1 .1)) (c .before .before .before .before .before .before .before .before .before .before .before .before .loop-test .taken) _ (span (c .before .before .before .before .before .before .before .before)) _ _ (c .before .before .before .before .before .before .before .smaller .ensures) (c .before .before .before .before .before .smaller2 .ensures) _ (c .before .before .copy .ensures) .1 ∙ c .before .before .before .before .before .before .before .before .before .before .before .before .before .loop .inv .0,
+  λ T g. turn _ _ T _ _ _ _ _ (c .before .before .before .before .before .before .before .before .before .before .before .before .before .before .before .before .pre .0) (copying (c .before .before .before .before .before .before .before .before .before .before .before .before) T g) (c .before .before .before .before .before .before .before .before .before .before .before .before .loop-test .taken) _ (span (c .before .before .before .before .before .before .before .before)) _ _ (c .before .before .before .before .before .before .before .smaller .ensures) (c .before .before .before .before .before .smaller2 .ensures) _ (c .before .before .copy .ensures) .0,
+)
 
--- src/content.rt:73:1
 same-length : tie.Need-same-length Inv-loop μ-loop
 same-length c =
     c .before .loop .inv .0
 
--- src/content.rt:73:1
 returns : tie.Need-returns Inv-loop μ-loop
 returns c =
     λ T g. done _ _ T _ _ _ _ _ (c .before .before .before .before .pre .0) (c .before .loop .inv .1 T g) (omega (arith, c .loop-test .left))

@@ -1,52 +1,39 @@
-use Rattle.walks.proofs.CopyLaws.{span-is}
-use Rattle.walks.specs.Spans.{partSpan}
-use Rattle.walks.specs.declared.Span.{Span}
-use Rattle.laws.proofs.Sizes.{sizes}
-use Rattle.laws.proofs.Conditions.{cond-yes, cond-no}
 use denote.Ref.{now}
 use native.Mathlib.Omega.{arith}
 use mathlib.Core.Path.{sym, ap, _∙_}
 use Prim.Native.Nat.{ℕ}
 use borrow.Author.Needs.{needs}
+use Rattle.walks.proofs.CopyLaws.{span-is}
+use Rattle.walks.specs.Spans.{partSpan}
+use Rattle.laws.proofs.Sizes.{sizes}
+use Rattle.laws.proofs.Conditions.{cond-yes, cond-no}
 use Rattle.walks.proofs.content.part_span.Statement.{statement}
 use Rattle.walks.proofs.content.part_span.Tie as tie
-use Rattle.walks.proofs.content.part_span.Reads as reads
-use Rattle.walks.proofs.content.part_span.Lts as lts
-use Rattle.slots.proofs.reader.is_continuation.Reads as is-continuation-reads
-use Rattle.slots.proofs.reader.part_size.Reads as part-size-reads
-use Rattle.slots.proofs.reader.read_next.Reads as read-next-reads
 
--- src/content.rt:57:8
 is-continuation-requires : tie.Need-is-continuation-requires
 is-continuation-requires c κs =
     let z = sizes (c .before .args .s) (c .before .pre .0) in omega (arith, c .before .pre .1)
 
--- src/content.rt:58:17
 add-o : tie.Need-add-o
 add-o c = search needs
 
--- src/content.rt:61:19
 sub-t5 : tie.Need-sub-t5
 sub-t5 c =
     let z = sizes (c .before .before .before .before .args .s) (c .before .before .before .before .pre .0) in omega arith
 
--- src/content.rt:62:19
 read-next-requires : tie.Need-read-next-requires
 read-next-requires c κs =
     let z = sizes (c .before .before .before .before .args .s) (c .before .before .before .before .pre .0) in omega (arith, c .before .before .before .before .pre .1)
 
--- src/content.rt:59:9
 returns : tie.Need-returns
 unfolding partSpan
 returns c =
     span-is (c .before .before .before .before .before .args .s) (now (c .before .before .before .before .before .args .slot)) _ (c .read-next .ensures) ∙ sym (cond-yes _ _ _ (sym (c .before .before .before .is-continuation .ensures) ∙ c .before .before .if1 .taken))
 
--- src/content.rt:67:15
 part-size-requires : tie.Need-part-size-requires
 part-size-requires c κs =
     let z = sizes (c .before .before .before .args .s) (c .before .before .before .pre .0) in omega (arith, c .before .before .before .pre .1)
 
--- src/content.rt:53:1
 returns-2 : tie.Need-returns-2
 unfolding partSpan
 returns-2 c =
