@@ -34,21 +34,21 @@ Lent = RefT (List ℕ)
 
 pub data Performed (s : Settings) : Type 0 where
   Inserting : (κ : Lfts 3) (table after key value : Lent) (mark : Bool) (r : Inserted)
-    → insert-code.Post κ (table, (s, (key, (value, (mark, tt))))) r (after, (s, (key, (value, (mark, tt))))) → Performed s
+      → insert-code.Post κ (table, (s, (key, (value, (mark, tt))))) r (after, (s, (key, (value, (mark, tt))))) → Performed s
   Replacing : (κ : Lfts 3) (table after : Lent) (h : ℕ) (key value : Lent) (mark : Bool) (r : Written)
-    → replace-code.Post κ (table, (s, (h, (key, (value, (mark, tt)))))) r (after, (s, (h, (key, (value, (mark, tt)))))) → Performed s
+      → replace-code.Post κ (table, (s, (h, (key, (value, (mark, tt)))))) r (after, (s, (h, (key, (value, (mark, tt)))))) → Performed s
   Removing : (κ : Lfts 1) (table after : Lent) (h : ℕ) (r : Written)
-    → remove-code.Post κ (table, (s, (h, tt))) r (after, (s, (h, tt))) → Performed s
+      → remove-code.Post κ (table, (s, (h, tt))) r (after, (s, (h, tt))) → Performed s
   Changing : (κ : Lfts 1) (table after : Lent) (h : ℕ) (step : ℤ) (r : Changed)
-    → change-count-code.Post κ (table, (s, (h, (step, tt)))) r (after, (s, (h, (step, tt)))) → Performed s
+      → change-count-code.Post κ (table, (s, (h, (step, tt)))) r (after, (s, (h, (step, tt)))) → Performed s
   Reading : (κ : Lfts 3) (table : Lent) (h : ℕ) (checked : Bool) (key output after : Lent) (r : Found)
-    → read-code.Post κ (table, (s, (h, (checked, (key, (output, tt)))))) r (table, (s, (h, (checked, (key, (after, tt)))))) → Performed s
+      → read-code.Post κ (table, (s, (h, (checked, (key, (output, tt)))))) r (table, (s, (h, (checked, (key, (after, tt)))))) → Performed s
   ReadingFixed : (κ : Lfts 2) (table : Lent) (h : ℕ) (checked : Bool) (key r : Lent)
-    → read-fixed-code.Post κ (table, (s, (h, (checked, (key, tt))))) r (table, (s, (h, (checked, (key, tt))))) → Performed s
+      → read-fixed-code.Post κ (table, (s, (h, (checked, (key, tt))))) r (table, (s, (h, (checked, (key, tt))))) → Performed s
   FindingFixed : (κ : Lfts 2) (table : Lent) (h : ℕ) (checked : Bool) (key : Lent) (r : Found)
-    → find-fixed-code.Post κ (table, (s, (h, (checked, (key, tt))))) r (table, (s, (h, (checked, (key, tt))))) → Performed s
+      → find-fixed-code.Post κ (table, (s, (h, (checked, (key, tt))))) r (table, (s, (h, (checked, (key, tt))))) → Performed s
   Counting : (κ : Lfts 1) (table : Lent) (r : Counted)
-    → free-count-code.Post κ (table, (s, tt)) r (table, (s, tt)) → Performed s
+      → free-count-code.Post κ (table, (s, tt)) r (table, (s, tt)) → Performed s
 
 -- the call as the ledger knows it
 abbrev pub callOf : {s : Settings} → Performed s → Call

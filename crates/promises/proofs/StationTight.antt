@@ -27,34 +27,34 @@ Lent = RefT (List ℕ)
 module _ (table : Lent) (s : PyltarkaSettings) where
   -- answers r and q, and what was lent to be written, afterwards a and b
   pub insert-tight : (κ : Lfts 3) (key value : Lent) (mark : Bool) (r q : PyltarkaInserted) (a b : Lent)
-    → insert-code.Post κ (table, (s, (key, (value, (mark, tt))))) r (a, (s, (key, (value, (mark, tt)))))
-    → insert-code.Post κ (table, (s, (key, (value, (mark, tt))))) q (b, (s, (key, (value, (mark, tt))))) → (r ≡ q) × (now a ≡ now b)
+      → insert-code.Post κ (table, (s, (key, (value, (mark, tt))))) r (a, (s, (key, (value, (mark, tt)))))
+      → insert-code.Post κ (table, (s, (key, (value, (mark, tt))))) q (b, (s, (key, (value, (mark, tt))))) → (r ≡ q) × (now a ≡ now b)
   insert-tight κ key value mark r q a b e f = (e .0 ∙ sym (f .0), e .1 ∙ sym (f .1))
 
   pub replace-tight : (κ : Lfts 3) (h : ℕ) (key value : Lent) (mark : Bool) (r q : ℕ) (a b : Lent)
-    → replace-code.Post κ (table, (s, (h, (key, (value, (mark, tt)))))) r (a, (s, (h, (key, (value, (mark, tt))))))
-    → replace-code.Post κ (table, (s, (h, (key, (value, (mark, tt)))))) q (b, (s, (h, (key, (value, (mark, tt)))))) → (r ≡ q) × (now a ≡ now b)
+      → replace-code.Post κ (table, (s, (h, (key, (value, (mark, tt)))))) r (a, (s, (h, (key, (value, (mark, tt))))))
+      → replace-code.Post κ (table, (s, (h, (key, (value, (mark, tt)))))) q (b, (s, (h, (key, (value, (mark, tt)))))) → (r ≡ q) × (now a ≡ now b)
   replace-tight κ h key value mark r q a b e f = (e .0 ∙ sym (f .0), e .1 ∙ sym (f .1))
 
   pub remove-tight : (κ : Lfts 1) (h r q : ℕ) (a b : Lent)
-    → remove-code.Post κ (table, (s, (h, tt))) r (a, (s, (h, tt))) → remove-code.Post κ (table, (s, (h, tt))) q (b, (s, (h, tt))) → (r ≡ q) × (now a ≡ now b)
+      → remove-code.Post κ (table, (s, (h, tt))) r (a, (s, (h, tt))) → remove-code.Post κ (table, (s, (h, tt))) q (b, (s, (h, tt))) → (r ≡ q) × (now a ≡ now b)
   remove-tight κ h r q a b e f = (e .0 ∙ sym (f .0), e .1 ∙ sym (f .1))
 
   pub change-count-tight : (κ : Lfts 1) (h : ℕ) (step : ℤ) (r q : PyltarkaChanged) (a b : Lent)
-    → change-count-code.Post κ (table, (s, (h, (step, tt)))) r (a, (s, (h, (step, tt))))
-    → change-count-code.Post κ (table, (s, (h, (step, tt)))) q (b, (s, (h, (step, tt)))) → (r ≡ q) × (now a ≡ now b)
+      → change-count-code.Post κ (table, (s, (h, (step, tt)))) r (a, (s, (h, (step, tt))))
+      → change-count-code.Post κ (table, (s, (h, (step, tt)))) q (b, (s, (h, (step, tt)))) → (r ≡ q) × (now a ≡ now b)
   change-count-tight κ h step r q a b e f = (e .0 ∙ sym (f .0), e .1 ∙ sym (f .1))
 
   pub read-tight : (κ : Lfts 3) (h : ℕ) (checked : Bool) (key output : Lent) (r q : PyltarkaRecord) (a b : Lent)
-    → read-code.Post κ (table, (s, (h, (checked, (key, (output, tt)))))) r (table, (s, (h, (checked, (key, (a, tt))))))
-    → read-code.Post κ (table, (s, (h, (checked, (key, (output, tt)))))) q (table, (s, (h, (checked, (key, (b, tt)))))) → (r ≡ q) × (now a ≡ now b)
+      → read-code.Post κ (table, (s, (h, (checked, (key, (output, tt)))))) r (table, (s, (h, (checked, (key, (a, tt))))))
+      → read-code.Post κ (table, (s, (h, (checked, (key, (output, tt)))))) q (table, (s, (h, (checked, (key, (b, tt)))))) → (r ≡ q) × (now a ≡ now b)
   read-tight κ h checked key output r q a b e f = (e .0 ∙ sym (f .0), e .1 ∙ sym (f .1))
 
   pub read-fixed-tight : (κ : Lfts 2) (h : ℕ) (checked : Bool) (key : Lent) (r q : PyltarkaPart)
-    → read-fixed-code.Post κ (table, (s, (h, (checked, (key, tt))))) r (table, (s, (h, (checked, (key, tt)))))
-    → read-fixed-code.Post κ (table, (s, (h, (checked, (key, tt))))) q (table, (s, (h, (checked, (key, tt))))) → r ≡ q
+      → read-fixed-code.Post κ (table, (s, (h, (checked, (key, tt))))) r (table, (s, (h, (checked, (key, tt)))))
+      → read-fixed-code.Post κ (table, (s, (h, (checked, (key, tt))))) q (table, (s, (h, (checked, (key, tt))))) → r ≡ q
   read-fixed-tight κ h checked key r q e f = e ∙ sym f
 
   pub free-count-tight : (κ : Lfts 1) (r q : PyltarkaCounted)
-    → free-count-code.Post κ (table, (s, tt)) r (table, (s, tt)) → free-count-code.Post κ (table, (s, tt)) q (table, (s, tt)) → r ≡ q
+      → free-count-code.Post κ (table, (s, tt)) r (table, (s, tt)) → free-count-code.Post κ (table, (s, tt)) q (table, (s, tt)) → r ≡ q
   free-count-tight κ r q e f = e ∙ sym f
