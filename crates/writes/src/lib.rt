@@ -2,16 +2,16 @@
 // Nothing here refuses: the checks are made before, by others, and from the first store on nothing can go wrong.
 use definition::Header;
 use definition::Settings;
+use reader::is_continuation;
+use reader::is_head;
+use reader::read_head_next;
+use reader::read_next;
 use slots::header::write_header;
-use slots::reader::is_continuation;
-use slots::reader::is_head;
-use slots::reader::read_head_next;
-use slots::reader::read_next;
 use slots::settings::head_overhead;
-use slots::writer::store_continuation;
-use slots::writer::store_free;
-use slots::writer::store_head;
-use slots::writer::store_sized;
+use writer::store_continuation;
+use writer::store_free;
+use writer::store_head;
+use writer::store_sized;
 ghost use mathlib.Core.Path.{_≡_};
 ghost use mathlib.Core.Bool.{false};
 ghost use mathlib.Core.List.{List, _++_, headD};
