@@ -29,7 +29,7 @@ use Rattle.walks.specs.declared.Walked.{Walked}
 use Rattle.walks.specs.Spans.{Copyable, contentAt}
 use Rattle.walks.proofs.StartCopies.{prefix-there}
 use Rattle.walks.proofs.ChainWalks.{size-fits, size-least}
-use Rattle.table.specs.Stages.{recordIs}
+use Rattle.checks.specs.Stages.{recordIs}
 use Rattle.table.proofs.Outcomes.{refuses, accepts}
 
 -- ---- a record whose checks passed

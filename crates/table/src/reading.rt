@@ -1,5 +1,5 @@
 // The reads: the copying read for both kinds of table, the fixed read that hands back a part of the table, and its companion.
-use crate::checks::check_record;
+use checks::check_record;
 use definition::Found;
 use definition::Record;
 use definition::Refusal;

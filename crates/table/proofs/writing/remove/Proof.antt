@@ -1,7 +1,7 @@
 use mathlib.Core.Path.{subst}
 use denote.Ref.{now}
 use borrow.Author.Needs.{needs}
-use Rattle.table.specs.Stages.{testedIs, removeTests}
+use Rattle.checks.specs.Stages.{testedIs, removeTests}
 use Rattle.definition.specs.declared.Written.{Written}
 use Rattle.definition.specs.Calls.{remove}
 use Rattle.table.proofs.Outcomes.{refuses}

@@ -1,8 +1,8 @@
 use mathlib.Core.Path.{subst}
 use denote.Ref.{now}
 use borrow.Author.Needs.{needs}
-use Rattle.table.specs.Stages.{fittedIs}
-use Rattle.table.specs.declared.writing.Fitted.{Fitted}
+use Rattle.checks.specs.Stages.{fittedIs}
+use Rattle.checks.specs.declared.writing.Fitted.{Fitted}
 use Rattle.definition.specs.Calls.{replace}
 use Rattle.table.proofs.Outcomes.{refuses}
 use Rattle.laws.proofs.Tests.{number-some}

@@ -17,7 +17,7 @@ use Rattle.laws.proofs.Sizes.{slot-inside, prefix-most}
 use Rattle.writes.specs.Ready.{Fit, Ready}
 use Rattle.definition.specs.declared.Header.{Header}
 use Rattle.definition.specs.FreeList.{freeList}
-use Rattle.table.specs.Stages.{newParts}
+use Rattle.checks.specs.Stages.{newParts}
 use Rattle.laws.proofs.Tests.{first-both, first-pass, first-one}
 use Rattle.definition.specs.Slots.{view, filled, headerOf}
 use Rattle.table.proofs.writing.write_new.Statement.{statement}
