@@ -78,14 +78,3 @@ removeTests s h t =
 abbrev pub fittedIs : Fitted → Settings → List ℕ → List ℕ → ℕ → List ℕ → Type 0
 fittedIs (Fitted.Same b) s key content h t = (first (replaceTests s key content h t) ≡ 0) × (b ≡ eqb (newParts s key content) (length (chainOf s t h)))
 fittedIs (Fitted.Refused r) s key content h t = first (replaceTests s key content h t) ≡ numberOf r
-
--- all tests passed: from here on nothing refuses
-pub record Insertable (s : Settings) (key content t : List ℕ) : Type 0 where
-  pub tests : first (insertTests s key content t) ≡ 0
-
-pub record Replaceable (s : Settings) (key content : List ℕ) (h : ℕ) (same : Bool) (t : List ℕ) : Type 0 where
-  pub tests : first (replaceTests s key content h t) ≡ 0
-  pub stays : same ≡ eqb (newParts s key content) (length (chainOf s t h))
-
-pub record Removable (s : Settings) (h : ℕ) (t : List ℕ) : Type 0 where
-  pub tests : first (removeTests s h t) ≡ 0
