@@ -32,7 +32,7 @@ pub fn write_record(
         × (r ≡ headD (newSlots old free (filledOf (view (s .size) (now (table .entry)))) (length (pieces s (prefix s (now (key .entry)) ++ now (content .entry))))) 0)) ⌝ }
 {
     let h = read_header(table, s);
-    let mut buf = [0u8; 30];
+    let mut buf = [0u8; definition::PREFIX_SIZE];
     let n = write_prefix(&mut buf, s, key);
     overwrite_chain(table, s, mark, &buf[..n], content, at, h, same)
 }

@@ -12,7 +12,8 @@ use Rattle.definition.specs.Answers.{parseOf}
 use Rattle.definition.specs.Calls.{checkedKeyTest}
 use Rattle.laws.proofs.Views.{within, part-view, lent-length}
 use Rattle.laws.proofs.Sizes.{sizes}
-use Rattle.checks.proofs.HeadLaws.{slot-zero, slot-above, head-refused, head-counted}
+use Rattle.laws.proofs.Heads.{slot-zero, slot-above}
+use Rattle.checks.proofs.HeadLaws.{slot-refused, head-refused, head-counted}
 use Rattle.checks.proofs.count.check_count.Statement.{statement}
 use Rattle.checks.proofs.count.check_count.Tie as tie
 
@@ -34,10 +35,10 @@ parsed c =
     c .parse-head .ensures ∙ ap (headParse (a .s) none 8) (part-view (a .s .size) (a .at) (now (a .table)))
 
 returns : tie.Need-returns
-returns c = slot-zero _ _ _ (c .if1 .taken)
+returns c = slot-refused _ _ _ (slot-zero _ _ (c .if1 .taken))
 
 returns-2 : tie.Need-returns-2
-returns-2 c = slot-above _ _ _ (subst (λ (n : ℕ). n ≤ c .before .before .before .args .at) (c .before .before .before .pre .2) (c .if2 .taken))
+returns-2 c = slot-refused _ _ _ (slot-above _ _ (subst (λ (n : ℕ). n ≤ c .before .before .before .args .at) (c .before .before .before .pre .2) (c .if2 .taken)))
 
 mul-a : tie.Need-mul-a
 mul-a c = omega (arith, inside (c .before))
