@@ -1,10 +1,10 @@
 -- The checks that calls share, each way that they go.
 use mathlib.Core.Path.{_≡_, refl, sym, ap, _∙_}
 use mathlib.Core.Logic.{_≢_}
-use mathlib.Core.Bool.{Bool, true, false, cond, _&&_, _||_, not}
-use mathlib.Core.List.{List, [], _∷_, _++_}
-use mathlib.Core.Option.{Option, none, some}
-use Prim.Native.Nat.{ℕ, _+_, _*_, _/_, _≤_, _<_}
+use mathlib.Core.Bool.{Bool, true, false, _&&_, _||_, not}
+use mathlib.Core.List.{List}
+use mathlib.Core.Option.{Option, none}
+use Prim.Native.Nat.{ℕ, _*_, _/_, _≤_}
 use native.Mathlib.Nat.{div-eq-of-lt, lt-of-not-le}
 use native.Mathlib.Decide.{decLe}
 use native.Mathlib.Omega.{arith}
@@ -16,8 +16,8 @@ use Rattle.definition.specs.declared.Header.{Header}
 use Rattle.definition.specs.declared.Refusal.{Refusal}
 use Rattle.definition.specs.Tests.{numberOf, refuse, first}
 use Rattle.definition.specs.Settings.{badSettings}
-use Rattle.definition.specs.Slots.{View, view, filled, lastRemoved, headerOf}
-use Rattle.definition.specs.Calls.{capacity, settingsTest, bufferTest, headerTest, keyTest, checkedKeyTest, checkedKey, chainTests, tableTests}
+use Rattle.definition.specs.Slots.{view, filled, headerOf}
+use Rattle.definition.specs.Calls.{capacity, settingsTest, bufferTest, headerTest, keyTest, checkedKeyTest, checkedKey, tableTests}
 use Rattle.laws.proofs.Tests.{number-some, refuse-yes, refuse-no, first-skip, first-refuses, first-one, first-refuse-all, first-past}
 use Rattle.laws.proofs.Passed.{opened}
 use Rattle.laws.proofs.Sizes.{slots-inside}

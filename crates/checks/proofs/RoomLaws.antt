@@ -1,7 +1,7 @@
 -- Tests 11 and 12: room is refused exactly when the slots needed exceed the free ones and the unused ones.
-use mathlib.Core.Path.{_≡_, refl, sym, ap, ap₂, _∙_}
+use mathlib.Core.Path.{_≡_, sym, ap, ap₂, _∙_}
 use mathlib.Core.Bool.{Bool, true, false}
-use mathlib.Core.List.{List, [], _∷_}
+use mathlib.Core.List.{List}
 use Prim.Native.Nat.{ℕ, _+_, _-_, _/_, _≤_, _<_}
 use native.Mathlib.Decide.{decLt}
 use native.Mathlib.Omega.{arith}
@@ -14,9 +14,9 @@ use Rattle.definition.specs.declared.FreeCount.{FreeCount}
 use Rattle.definition.specs.declared.Refusal.{Refusal}
 use Rattle.definition.specs.declared.Written.{Written}
 use Rattle.definition.specs.Tests.{numberOf, refuse, first}
-use Rattle.definition.specs.Slots.{View, view, filled, lastRemoved, headerOf}
-use Rattle.definition.specs.FreeList.{freeFrom, freeList, membersOf}
-use Rattle.definition.specs.Calls.{capacity, freeListTest, roomTest, roomTests}
+use Rattle.definition.specs.Slots.{view, filled, headerOf}
+use Rattle.definition.specs.FreeList.{freeFrom, freeList}
+use Rattle.definition.specs.Calls.{capacity, roomTest, roomTests}
 use Rattle.laws.proofs.Tests.{number-some, refuse-yes, refuse-no, first-skip, first-one, first-refuses}
 use Rattle.laws.proofs.Passed.{opened}
 use Rattle.walks.specs.Met.{freeIs}

@@ -1,18 +1,18 @@
 -- The value's tests, and the parts that a body needs: a head, then one part and one more for each further E - 10 bytes (`parts-more`).
-use mathlib.Core.Path.{_≡_, refl, sym, ap, _∙_}
+use mathlib.Core.Path.{_≡_, sym, ap, _∙_}
 use mathlib.Core.Bool.{Bool, true, false, cond, _&&_, not}
-use mathlib.Core.List.{List, [], _∷_, _++_}
+use mathlib.Core.List.{List, _++_}
 use Prim.Native.Nat.{ℕ, zero, suc, _+_, _-_, _/_, _≤_, _<_}
 use native.Mathlib.Nat.{div-eq-of-lt, add-div-right}
 use native.Mathlib.Decide.{decLe}
 use native.Mathlib.Omega.{arith}
 use lib.Dec.{eqb, leb, ltb}
-use lib.ListN.{length, take, drop, length-drop, length-append}
+use lib.ListN.{length, drop, length-drop, length-append}
 use borrow.Author.Tests.{leb-true, leb-false}
 use Rattle.definition.specs.declared.Settings.{Settings}
 use Rattle.definition.specs.declared.Refusal.{Refusal}
 use Rattle.definition.specs.Tests.{refuse, first}
-use Rattle.definition.specs.Settings.{prefixLen, headOverhead, badSettings}
+use Rattle.definition.specs.Settings.{prefixLen, headOverhead}
 use Rattle.definition.specs.Parts.{prefix, cutRest, cut, pieces}
 use Rattle.definition.specs.Calls.{keyTest, valueTest, valueTests}
 use Rattle.laws.proofs.Conditions.{Which, which, isYes, isNo, cond-yes, cond-no}

@@ -1,13 +1,11 @@
 -- Document 01's figures marked (P), "Figures either side", as one list with a single claim over the whole list, by computation;
 -- then, in the same way, "Readings that look right and are not", each as the figure that it gets wrong.
 use mathlib.Core.Path.{_≡_, refl}
-use Prim.Native.Nat.{ℕ, zero, suc, _+_, _-_, _*_}
+use Prim.Native.Nat.{ℕ, _+_}
 use mathlib.Core.Bool.{Bool, true, false, cond, _&&_}
 use mathlib.Core.List.{List, [], _∷_, _++_, headD}
-use mathlib.Core.Option.{Option, none, some}
-use lib.IntN.{ℤ, pos, negsuc}
+use lib.IntN.{pos, negsuc}
 use lib.ListN.{length, take, drop, replicate}
-use lib.Dec.{eqb}
 use Rattle.definition.specs.declared.Settings.{Settings}
 use Rattle.definition.specs.Numbers.{le, bytes, num, over, put, sameBytes, range}
 use Rattle.definition.specs.Tests.{refuse, first}

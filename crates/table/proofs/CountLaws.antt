@@ -1,30 +1,25 @@
 -- The change of a count and the length of the free list, each way out: refused by the checks of the table, of the slot or of the head,
 -- or answered as the definition says.
 use mathlib.Core.Path.{_≡_, refl, sym, ap, _∙_, subst}
-use mathlib.Core.Logic.{_≢_}
-use mathlib.Core.Bool.{Bool, true, false, cond, not}
+use mathlib.Core.Bool.{true, false, not}
 use mathlib.Core.List.{List, [], _∷_, _++_}
 use mathlib.Core.Option.{Option, none, some}
-use Prim.Native.Nat.{ℕ, zero, suc, _+_, _-_, _*_, _≤_, _<_}
+use Prim.Native.Nat.{ℕ, _+_, _-_, _*_, _≤_}
 use native.Mathlib.Omega.{arith}
-use lib.Dec.{eqb, leb}
 use lib.IntN.{ℤ}
 use lib.ListN.{length}
-use borrow.Author.Tests.{eq-eqb, ne-eqb, le-leb, lt-leb}
 use Rattle.definition.specs.declared.Settings.{Settings}
 use Rattle.definition.specs.declared.Header.{Header}
 use Rattle.definition.specs.declared.Refusal.{Refusal}
-use Rattle.definition.specs.declared.PartKind.{PartKind}
 use Rattle.definition.specs.declared.FreeCount.{FreeCount}
 use Rattle.definition.specs.Numbers.{bytes, put}
 use Rattle.definition.specs.Tests.{numberOf, first}
 use Rattle.definition.specs.Settings.{startOverhead, badSettings}
-use Rattle.definition.specs.Slots.{View, view, filled, countOf}
+use Rattle.definition.specs.Slots.{view, filled}
 use Rattle.definition.specs.FreeList.{freeFrom, freeList}
-use Rattle.definition.specs.Chains.{Parse, refused, part, unlessRefused, headFault, startPart, headParse}
+use Rattle.definition.specs.Chains.{headFault}
 use Rattle.definition.specs.Answers.{refusal, count, lastReference, members, freeCountOf}
 use Rattle.definition.specs.Calls.{capacity, uncountedTest, slotTest, tableTests, newCount, counted, change, freeCount}
-use Rattle.laws.proofs.Conditions.{or-left, or-right, or-no}
 use Rattle.laws.proofs.Tests.{number-some, refuse-yes, refuse-no, first-skip, first-pass, first-past, first-one, first-refuses, first-refuse-all}
 use Rattle.laws.proofs.Views.{within}
 use Rattle.laws.proofs.Overheads.{start-fits}

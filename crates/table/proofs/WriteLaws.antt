@@ -4,8 +4,7 @@ use mathlib.Core.Path.{_≡_, refl, sym, ap, ap₂, _∙_}
 use mathlib.Core.Bool.{Bool, false}
 use mathlib.Core.List.{List, [], _++_, headD}
 use mathlib.Core.Option.{none}
-use Prim.Native.Nat.{ℕ, _-_}
-use lib.Dec.{eqb}
+use Prim.Native.Nat.{ℕ}
 use lib.ListN.{length}
 use Rattle.definition.specs.declared.Settings.{Settings}
 use Rattle.definition.specs.declared.Refusal.{Refusal}
@@ -16,14 +15,14 @@ use Rattle.definition.specs.FreeList.{freeList}
 use Rattle.definition.specs.Parts.{prefix, pieces}
 use Rattle.definition.specs.Effect.{newSlots, effect}
 use Rattle.definition.specs.Answers.{refusal, at, accepted}
-use Rattle.definition.specs.Calls.{capacity, keyTest, valueTest, freeListTest, tableTests, valueTests, chainTests, roomTests, insert, replace, remove}
+use Rattle.definition.specs.Calls.{capacity, keyTest, valueTest, freeListTest, tableTests, valueTests, chainTests, insert, replace, remove}
 use Rattle.laws.proofs.Tests.{number-some, first-both, first-pass, first-one}
 use Rattle.laws.proofs.Passed.{opened}
 use Rattle.writes.specs.Steps.{clearStores}
 use Rattle.writes.specs.Ready.{Fit, Writable, Freeable}
 use Rattle.writes.proofs.Accepted.{fit, ready-insert, ready-replace, freeing-remove, remove-stores, freeOf, filledOf}
 use Rattle.checks.specs.declared.writing.Fitted.{Fitted}
-use Rattle.checks.specs.Stages.{testedIs, fittedIs, insertTests, replaceTests, removeTests, chainOf, newParts}
+use Rattle.checks.specs.Stages.{testedIs, fittedIs, insertTests, removeTests, chainOf, newParts}
 use Rattle.table.proofs.Outcomes.{refuses, accepts-to}
 
 -- ---- a value written

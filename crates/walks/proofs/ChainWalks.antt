@@ -1,35 +1,34 @@
 -- The walk of a whole chain: a plain slot alone, or a head, its later parts and, last, its total; and the tests of a call on it.
-use mathlib.Core.Path.{_≡_, refl, sym, ap, ap₂, _∙_, subst}
+use mathlib.Core.Path.{_≡_, refl, sym, ap, ap₂, _∙_}
 use mathlib.Core.Logic.{_≢_}
-use mathlib.Core.Bool.{Bool, true, false, cond, _||_, not}
-use mathlib.Core.List.{List, [], _∷_, _++_}
+use mathlib.Core.Bool.{Bool, true, false, cond, not}
+use mathlib.Core.List.{List, [], _∷_}
 use mathlib.Core.Option.{Option, none}
-use Prim.Native.Nat.{ℕ, zero, suc, _+_, _-_, _*_, _≤_, _<_}
+use Prim.Native.Nat.{ℕ, suc, _+_, _-_, _*_, _≤_, _<_}
 use native.Mathlib.Nat.{suc-mul}
 use native.Mathlib.Omega.{arith}
-use lib.Dec.{eqb, leb}
+use lib.Dec.{eqb}
 use lib.ListN.{length, drop, length-append, length-drop, length-take}
-use borrow.Author.Tests.{eq-eqb, ne-eqb, le-leb, lt-leb, ltb-false}
+use borrow.Author.Tests.{eq-eqb, ne-eqb, ltb-false}
 use Rattle.definition.specs.declared.Settings.{Settings}
 use Rattle.definition.specs.declared.Refusal.{Refusal}
 use Rattle.definition.specs.declared.PartKind.{PartKind}
 use Rattle.definition.specs.declared.PartKind.the-variants.{Head, Continuation, Last}
-use Rattle.definition.specs.Tests.{numberOf, refuse, first}
-use Rattle.definition.specs.Settings.{prefixLen, headOverhead, badSettings}
+use Rattle.definition.specs.Tests.{numberOf, refuse}
+use Rattle.definition.specs.Settings.{prefixLen, headOverhead}
 use Rattle.definition.specs.Slots.{View, view, filled, sizeOf, totalOf, headLink, markOf}
-use Rattle.definition.specs.Chains.{Parse, refused, part, unlessRefused, headFault, startPart, headParse, Walk, whole, partsFrom, sizedBody, restBody, bodyOf, contentOf, totalGood, withTotal, walk}
-use Rattle.definition.specs.Calls.{slotTest, chainTests}
-use Rattle.laws.proofs.Conditions.{yes-no, cond-yes, cond-no, or-left, or-right, or-no, and-skip}
+use Rattle.definition.specs.Chains.{refused, part, headFault, startPart, headParse, Walk, whole, partsFrom, sizedBody, restBody, bodyOf, contentOf, totalGood, withTotal, walk}
+use Rattle.definition.specs.Calls.{slotTest}
+use Rattle.laws.proofs.Conditions.{cond-yes, cond-no, and-skip}
 use Rattle.laws.proofs.Tests.{number-some, refuse-yes, refuse-no, first-skip, first-refuses, first-pass, first-one, passed}
 use Rattle.laws.proofs.Lists.{length-part}
-use Rattle.laws.proofs.Views.{length-view, apart}
-use Rattle.laws.proofs.Sizes.{Sizes, sizes}
+use Rattle.laws.proofs.Views.{apart}
 use Rattle.laws.proofs.Chains.{rest-walk}
 use Rattle.laws.proofs.Passed.{head-unkeyed}
 use Rattle.laws.proofs.Heads.{slot-good, parse-fault, parse-part}
 use Rattle.walks.specs.declared.Extent.{Extent}
 use Rattle.walks.specs.declared.Walked.{Walked}
-use Rattle.walks.specs.Met.{walkedIs, restIs, chainIs, chainTested}
+use Rattle.walks.specs.Met.{restIs, chainIs, chainTested}
 
 -- ---- how much later parts hold
 
