@@ -1,6 +1,7 @@
 -- The one effect of insert, replace and remove. Document 01, "Steps of each call": take, write, replace, free and remove.
 -- `old` are the slots of the chain that is there (none for insert), `free` the free list in order, F is FILLED, and n the number
--- of new parts (0 for remove). The laws show that this is what 01's steps come to, one slot at a time.
+-- of new parts (0 for remove). That this is what 01's steps come to, one slot at a time, is shown by
+-- `steps` and `free-steps-store`, crates/laws/proofs/Steps.antt.
 use Prim.Native.Nat.{ℕ, _+_, _-_}
 use mathlib.Core.Bool.{Bool, cond}
 use mathlib.Core.List.{List, [], _∷_, _++_, reverse, headD}

@@ -1,9 +1,9 @@
 -- Document 01's figures marked (P), "Figures either side", as one list with a single claim over the whole list, by computation;
--- then, in the same way, "Readings that look right and are not", each as the figure that it gets wrong.
+-- then, in the same way, "Readings that look right and are not", each as the figure that it gets wrong, and two more of that kind.
 use mathlib.Core.Path.{_≡_, refl}
-use Prim.Native.Nat.{ℕ, _+_}
+use Prim.Native.Nat.{ℕ, _+_, _%_}
 use mathlib.Core.Bool.{Bool, true, false, cond, _&&_}
-use mathlib.Core.List.{List, [], _∷_, _++_, headD}
+use mathlib.Core.List.{List, [], _∷_, _++_, headD, map}
 use lib.IntN.{pos, negsuc}
 use lib.ListN.{length, take, drop, replicate}
 use Rattle.definition.specs.declared.Settings.{Settings}
@@ -26,8 +26,12 @@ Out = Answer × List ℕ
 zeros : ℕ → List ℕ
 zeros n = replicate n 0
 
+-- no two bytes of the key alike, and contents that count up, so that it shows which bytes are stored and in what order
 hash : List ℕ
-hash = replicate 32 9
+hash = range 0 32
+
+counting : ℕ → List ℕ
+counting n = map (λ i. i % 256) (range 0 n)
 
 -- E = 32, and E = 64 counted and keyed
 small : Settings
@@ -45,7 +49,7 @@ bare = record { size = 4096; multipart = true; counted = false; keyed = false }
 
 -- n bytes inserted
 ins : Settings → ℕ → Bool → List ℕ → Out
-ins s n mark t = insert s hash (replicate n 7) mark t
+ins s n mark t = insert s hash (counting n) mark t
 
 -- an answer as numbers
 unfoldable pub numbers : Answer → List ℕ
@@ -144,7 +148,7 @@ every [] = true
 every (b ∷ bs) = b && every bs
 
 pub figures-hold : every figures ≡ true
-unfolding headD le bytes num over put sameBytes range refuse first countLen keyLen prefixLen headOverhead startOverhead badSettings view lastRemoved filled marked isFree isContinuation isHead sizeWord sizeOf topBit totalOf headLink linkOf starts countOf keyOf markOf partialKey store push freeFrom freeList membersOf unlessRefused keyDiffers headFault lastFault laterParse isLast onward partsFrom sizedBody restBody bodyOf contentOf totalGood withTotal walk prefix cutRest cut pieces sizedPart continuationPart storedTotal headPart freeSlot restStores chainStores freeStores newSlots leftOver freeLeft freeAfter filledAfter headerStore headerStores effect capacity settingsTest bufferTest headerTest keyTest uncountedTest valueTest slotTest freeListTest roomTest unless insert replace remove lowered newCount countStore counted change numbers answers holds whole parts zeros hash small entry64 full bare ins inserted removed thinned again₁ again₂ again₃ m4065 m8142 m8143 four two five top figures every
+unfolding headD le bytes num over put sameBytes range refuse first countLen keyLen prefixLen headOverhead startOverhead badSettings view lastRemoved filled marked isFree isContinuation isHead sizeWord sizeOf topBit totalOf headLink linkOf starts countOf keyOf markOf partialKey store push freeFrom freeList membersOf unlessRefused keyDiffers headFault lastFault laterParse isLast onward partsFrom sizedBody restBody bodyOf contentOf totalGood withTotal walk prefix cutRest cut pieces sizedPart continuationPart storedTotal headPart freeSlot restStores chainStores freeStores newSlots leftOver freeLeft freeAfter filledAfter headerStore headerStores effect capacity settingsTest bufferTest headerTest keyTest uncountedTest valueTest slotTest freeListTest roomTest unless insert replace remove lowered newCount countStore counted change numbers answers holds whole parts zeros hash counting small entry64 full bare ins inserted removed thinned again₁ again₂ again₃ m4065 m8142 m8143 four two five top figures every
 figures-hold = refl
 
 -- ---- the readings that look right and are not
@@ -165,8 +169,12 @@ readings =
     ∷ parts (ins full 8140 false (zeros 12288)) 2
     -- a replace makes the count 1 again
     ∷ (holds replaced 66 (bytes 4 1) && answers (change entry64 (pos 0) 1 (replaced .1)) (count 1))
+    -- of the key its bytes 6 to 31 are stored, after the count, and the content after them
+    ∷ holds (ins entry64 5 false (zeros 128)) 66 (bytes 4 1 ++ (range 6 26 ++ range 0 5))
+    -- the last part goes on where the head left off: the head holds 4,078 bytes, 30 of them the prefix
+    ∷ (holds m4065 4144 (take 4048 (counting 4065)) && holds m4065 8194 (drop 4048 (counting 4065)))
     ∷ []
 
 pub readings-hold : every readings ≡ true
-unfolding headD le bytes num over put sameBytes range refuse first countLen keyLen prefixLen headOverhead startOverhead badSettings view lastRemoved filled marked isFree isContinuation isHead sizeWord sizeOf topBit totalOf headLink linkOf starts countOf keyOf markOf partialKey store push freeFrom freeList membersOf unlessRefused keyDiffers headFault lastFault laterParse isLast onward partsFrom sizedBody restBody bodyOf contentOf totalGood withTotal walk prefix cutRest cut pieces sizedPart continuationPart storedTotal headPart freeSlot restStores chainStores freeStores newSlots leftOver freeLeft freeAfter filledAfter headerStore headerStores effect capacity settingsTest bufferTest headerTest keyTest uncountedTest valueTest slotTest freeListTest roomTest unless insert replace remove lowered newCount countStore counted change numbers answers holds whole parts zeros hash small entry64 full bare ins m4065 four two five replaced readings every
+unfolding headD le bytes num over put sameBytes range refuse first countLen keyLen prefixLen headOverhead startOverhead badSettings view lastRemoved filled marked isFree isContinuation isHead sizeWord sizeOf topBit totalOf headLink linkOf starts countOf keyOf markOf partialKey store push freeFrom freeList membersOf unlessRefused keyDiffers headFault lastFault laterParse isLast onward partsFrom sizedBody restBody bodyOf contentOf totalGood withTotal walk prefix cutRest cut pieces sizedPart continuationPart storedTotal headPart freeSlot restStores chainStores freeStores newSlots leftOver freeLeft freeAfter filledAfter headerStore headerStores effect capacity settingsTest bufferTest headerTest keyTest uncountedTest valueTest slotTest freeListTest roomTest unless insert replace remove lowered newCount countStore counted change numbers answers holds whole parts zeros hash counting small entry64 full bare ins m4065 four two five replaced readings every
 readings-hold = refl

@@ -1,6 +1,8 @@
 -- The plain ledger of demand 3: chains with slots, key, content, mark and count, the free slots in order, FILLED.
--- Each call is a step on the ledger alone, which knows no mark of a slot, no link and no offset: of the layout it takes only into
--- how many parts a content is cut. How a table is read as a ledger is said in Run.
+-- Each call is a step on the ledger alone, which knows no mark of a slot, no link and no offset. It shares with the calls on tables what
+-- is not layout: the tests of key, value, count, room and output, into how many parts a content is cut, which slots a call takes and
+-- frees (`newSlots`, `freeAfter`, `filledAfter`, which are 01's steps one slot at a time: `steps`, crates/laws/proofs/Steps.antt), and
+-- the new count. How a table is read as a ledger is said in Run.
 use Prim.Native.Nat.{ℕ, _-_}
 use mathlib.Core.Bool.{Bool, cond, _&&_, _||_, not}
 use mathlib.Core.List.{List, [], _∷_, _++_, headD}
@@ -121,7 +123,8 @@ ledgerReadTests s k h L = checkedKeyTest s k ∷ chainTest L h ∷ ledgerKeyTest
 unfoldable pub ledgerLook : Settings → Option (List ℕ) → ℕ → Ledger → Answer × List ℕ
 ledgerLook s k h L = unless (first (refuse 1 (s .multipart) ∷ ledgerReadTests s k h L)) [] (foundIn (L .chains h), contentIn (L .chains h))
 
--- a call on a ledger; cap is the table's capacity. 1, 2, 3, 9, 10 and 11 cannot occur: the table is sound
+-- a call on a ledger; cap is the table's capacity. 2, 3, 9, 10 and 11 cannot occur, since the table is
+-- sound, and 1 only where a multipart table is read as a fixed one
 unfoldable pub ledgerStep : Settings → ℕ → Call → Ledger → Outcome Ledger
 ledgerStep s cap (Insert k c m) L =
     let n = length (pieces s (prefix s k ++ c)) in

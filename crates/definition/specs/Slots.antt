@@ -1,5 +1,6 @@
 -- Slots. Document 01, "Slots": the header, the marks, and what each kind of slot holds and where.
--- Beside each definition stands, in our words, what the layout comment of table.rs (lines 4 to 45) says of it, and who overrules it.
+-- Beside each definition stands what the layout comment of table.rs (lines 4 to 45) says of it, in our words or, in quotation marks, its own,
+-- and who overrules it.
 -- A table is seen through its slots: from here on nothing reads a table but by `view`.
 use Prim.Native.Nat.{ℕ, _+_, _-_, _*_, _%_}
 use mathlib.Core.Bool.{Bool, cond, _||_, not}
