@@ -6,7 +6,6 @@ use definition::Settings;
 use numbers::has_mark;
 use numbers::read_u16;
 use numbers::read_u32;
-use numbers::read_u64;
 ghost use mathlib.Core.Path.{_≡_};
 ghost use mathlib.Core.Bool.{Bool, false, _&&_, not};
 ghost use mathlib.Core.Option.{none};
@@ -72,7 +71,7 @@ pub fn read_next(slot: &[u8]) -> u64
     requires { ⌜ 10 ≤ length (now slot) ⌝ }
     ensures { λ r. ⌜ r ≡ linkOf (now (slot .entry)) ⌝ }
 {
-    read_u64(slot, definition::SIZE_SIZE)
+    entry::u64_at(slot, definition::SIZE_SIZE)
 }
 
 // The content length in a head.
@@ -80,7 +79,7 @@ pub fn read_total(slot: &[u8]) -> u64
     requires { ⌜ 10 ≤ length (now slot) ⌝ }
     ensures { λ r. ⌜ r ≡ totalOf (now (slot .entry)) ⌝ }
 {
-    read_u64(slot, definition::SIZE_SIZE)
+    entry::u64_at(slot, definition::SIZE_SIZE)
 }
 
 // The link of a head, right before its prefix.
@@ -89,7 +88,7 @@ pub fn read_head_next(slot: &[u8], s: Settings) -> u64
     ensures { λ r. ⌜ r ≡ headLink s (now (slot .entry)) ⌝ }
 {
     let o = slots::settings::head_overhead(s);
-    read_u64(slot, o - definition::INDEX_SIZE)
+    entry::u64_at(slot, o - definition::INDEX_SIZE)
 }
 
 // Whether a chain starts in the slot.

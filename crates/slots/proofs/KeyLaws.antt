@@ -17,6 +17,8 @@ use Rattle.definition.specs.Slots.{keyOf, partialKey}
 use Rattle.definition.specs.Chains.{keyDiffers}
 use Rattle.definition.specs.Parts.{prefix}
 use Rattle.definition.specs.Calls.{keyTest, checkedKeyTest, checkedKey}
+use Rattle.entry.specs.declared.PartialKey.{PartialKey}
+use Rattle.entry.specs.Reading.{keyAt}
 use Rattle.laws.proofs.Conditions.{Which, which, isYes, isNo, yes-no, cond-yes, cond-no}
 use Rattle.laws.proofs.Tests.{passed}
 use Rattle.laws.proofs.Lists.{drop-take, length-part}
@@ -57,17 +59,20 @@ module _ (b key : List ℕ) (at : ℕ) (fit : (at + 26 ≤ length b) × (length 
           absurd (ne (em ∙ ap le (rw hp (sym (inner b at 26 o k h)) ∙ ap (λ (l : List ℕ). take k (drop o l)) same ∙ rw hq (inner key 6 26 o k h)) ∙ sym en))
 
   -- all words agree
-  pub agree : AllBytes b → AllBytes key
-      → num at 8 b ≡ num 6 8 key → num (at + 8) 8 b ≡ num 14 8 key → num (at + 16) 8 b ≡ num 22 8 key → num (at + 24) 2 b ≡ num 30 2 key
+  pub agree : AllBytes b → AllBytes key → (stored wanted : PartialKey) → stored ≡ keyAt at b → wanted ≡ keyAt 6 key
+      → stored .first ≡ wanted .first → stored .second ≡ wanted .second → stored .third ≡ wanted .third → stored .last ≡ wanted .last
       → true ≡ sameBytes (take 26 (drop at b)) (partialKey key)
   unfolding partialKey
-  agree hb hk e₀ e₁ e₂ e₃ =
-      let w₀ = num-same 8 at 6 b key hb hk (omega (arith, fit .0)) (omega (arith, fit .1)) e₀ in
-      let w₁ = num-same 8 (at + 8) 14 b key hb hk (omega (arith, fit .0)) (omega (arith, fit .1)) e₁ in
-      let w₂ = num-same 8 (at + 16) 22 b key hb hk (omega (arith, fit .0)) (omega (arith, fit .1)) e₂ in
-      let w₃ = num-same 2 (at + 24) 30 b key hb hk (omega (arith, fit .0)) (omega (arith, fit .1)) e₃ in
+  agree hb hk stored wanted es ew e₀ e₁ e₂ e₃ =
+      let w₀ = num-same 8 at 6 b key hb hk (omega (arith, fit .0)) (omega (arith, fit .1)) (word (λ (k : PartialKey). k .first) e₀) in
+      let w₁ = num-same 8 (at + 8) 14 b key hb hk (omega (arith, fit .0)) (omega (arith, fit .1)) (word (λ (k : PartialKey). k .second) e₁) in
+      let w₂ = num-same 8 (at + 16) 22 b key hb hk (omega (arith, fit .0)) (omega (arith, fit .1)) (word (λ (k : PartialKey). k .third) e₂) in
+      let w₃ = num-same 2 (at + 24) 30 b key hb hk (omega (arith, fit .0)) (omega (arith, fit .1)) (word (λ (k : PartialKey). k .last) e₃) in
       let same : take 26 (drop at b) ≡ take 26 (drop 6 key) = words b at ∙ rw (w₀, w₁, w₂, w₃) (sym (words key 6)) in
       sym (rw same (sameBytes-refl (take 26 (drop 6 key))))
+    where
+      word : (field : PartialKey → ℕ) → field stored ≡ field wanted → field (keyAt at b) ≡ field (keyAt 6 key)
+      word field e = sym (ap field es) ∙ e ∙ ap field ew
 
 -- ---- the checked key
 

@@ -1,7 +1,5 @@
 // The partial key, bytes 6 to 31 of the 32-byte hash: compared with the one in a slot, and written after the count.
 use definition::Settings;
-use numbers::read_u16;
-use numbers::read_u64;
 use numbers::write_u32;
 ghost use mathlib.Core.Path.{_≡_};
 ghost use mathlib.Core.Bool.{false, cond};
@@ -20,16 +18,18 @@ fn same_key(slot: &[u8], at: usize, key: &[u8]) -> bool
     requires { ⌜ (at + 26 ≤ length (now slot)) × (length (now key) ≡ 32) ⌝ }
     ensures { λ r. ⌜ r ≡ sameBytes (take 26 (drop at (now (slot .entry)))) (partialKey (now (key .entry))) ⌝ }
 {
-    if read_u64(slot, at) != read_u64(key, 6) {
+    let stored = entry::key_at(slot, at);
+    let wanted = entry::key_at(key, definition::KEY_SKIP);
+    if stored.first != wanted.first {
         return false;
     }
-    if read_u64(slot, at + 8) != read_u64(key, 14) {
+    if stored.second != wanted.second {
         return false;
     }
-    if read_u64(slot, at + 16) != read_u64(key, 22) {
+    if stored.third != wanted.third {
         return false;
     }
-    if read_u16(slot, at + 24) != read_u16(key, 30) {
+    if stored.last != wanted.last {
         return false;
     }
     true

@@ -12,19 +12,19 @@ use Rattle.reader.proofs.read_head_next.Tie as tie
 head-overhead-requires : tie.Need-head-overhead-requires
 head-overhead-requires c κs = search needs
 
-sub-read-u64 : tie.Need-sub-read-u64
-sub-read-u64 c =
+sub-u64-at : tie.Need-sub-u64-at
+sub-u64-at c =
     omega (arith, c .head-overhead .ensures, head-is (c .before .before .args .s))
 
-read-u64-requires : tie.Need-read-u64-requires
-read-u64-requires c κs =
+u64-at-requires : tie.Need-u64-at-requires
+u64-at-requires c κs =
     omega (arith, c .head-overhead .ensures, head-is (c .before .before .args .s))
 
 returns : tie.Need-returns
 unfolding headLink
 returns c =
-    c .read-u64 .ensures ∙ ap (λ (o : ℕ). num (o - 8) 8 (now (c .before .before .before .args .slot))) (c .before .head-overhead .ensures)
+    c .u64-at .ensures ∙ ap (λ (o : ℕ). num (o - 8) 8 (now (c .before .before .before .args .slot))) (c .before .head-overhead .ensures)
 
 pub read-head-next-spec : {M : Type 1} → statement M
 read-head-next-spec =
-    tie.close (tie.spec head-overhead-requires sub-read-u64 read-u64-requires returns)
+    tie.close (tie.spec head-overhead-requires sub-u64-at u64-at-requires returns)
