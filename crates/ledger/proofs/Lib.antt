@@ -15,7 +15,7 @@ pub mod OneCall
 pub mod Sequences
 pub mod Frame
 pub mod Refused
-pub mod Room
 pub mod Numbers
+pub mod Room
 pub mod Fresh
 pub mod ChainOfFour

@@ -1,5 +1,6 @@
 -- The numbers in answers, on any table. A refused call answers one of the numbers that apply to it (`refusal-among`): 12 is insert's and
--- replace's alone. A read that succeeds visits as many slots as its chain has parts, at most FILLED - 1 (`visits-are`).
+-- replace's alone. A read that succeeds visits as many slots as its chain has parts, at most FILLED - 1 (`visits-are`), and so does a
+-- fixed read, whose chain is its one slot (`fixed-visits-are`).
 use mathlib.Core.Path.{_≡_, refl, sym, ap, _∙_, subst}
 use Prim.Native.Nat.{ℕ, zero, suc, _-_, _≤_, _<_}
 use native.Mathlib.Omega.{arith}
@@ -19,7 +20,7 @@ use Rattle.definition.specs.Sound.{hit, occ}
 use Rattle.definition.specs.Ledger.{Call, Insert, Replace, Remove, Change, Read, ReadFixed, FindFixed, FreeCount}
 use Rattle.definition.specs.Run.{run}
 use Rattle.laws.proofs.Conditions.{which, Which, isYes, isNo}
-use Rattle.laws.proofs.Tests.{refuse-yes, first-stop, first-pass, first-both}
+use Rattle.laws.proofs.Tests.{refuse-yes, passed, first-stop, first-pass, first-both}
 use Rattle.laws.proofs.Counting.{hit-other}
 use Rattle.laws.proofs.Chains.{ChainAt}
 use Rattle.laws.proofs.Turns.{part-limit, Turn, broken, judged, goesOn, ends, turn}
@@ -28,12 +29,12 @@ use Rattle.ledger.proofs.Refused.{teller, Granted, unless-refused, answ
 
 -- ---- whatever holds of 0 and of the numbers of the tests holds of the first refusal
 
-data Each (P : ℕ → Type 0) : List ℕ → Type 0 where
+pub data Each (P : ℕ → Type 0) : List ℕ → Type 0 where
   end : Each P []
   also : {n : ℕ} {ns : List ℕ} → P n → Each P ns → Each P (n ∷ ns)
 
 module _ (P : ℕ → Type 0) (zero-is : P 0) where
-  first-is : (ns : List ℕ) → Each P ns → P (first ns)
+  pub first-is : (ns : List ℕ) → Each P ns → P (first ns)
   unfolding first
   first-is [] end = zero-is
   first-is (zero ∷ ns) (also p h) = first-is ns h
@@ -72,11 +73,11 @@ module _ (P : ℕ → Type 0) (zero-is : P 0) where
         go false = zero-is
 
   -- the tests that go together, and those after them
-  table-then : (s : Settings) (f : View) (cap : ℕ) (ns : List ℕ) → P 1 → P 2 → P 3 → Each P ns → Each P (tableTests s f cap ++ ns)
+  pub table-then : (s : Settings) (f : View) (cap : ℕ) (ns : List ℕ) → P 1 → P 2 → P 3 → Each P ns → Each P (tableTests s f cap ++ ns)
   unfolding settingsTest bufferTest headerTest
   table-then s f cap ns one two three h = also (refuse-is 1 _ one) (also (refuse-is 2 _ two) (also (refuse-is 3 _ three) h))
 
-  value-then : (s : Settings) (key content : List ℕ) (ns : List ℕ) → P 4 → P 6 → Each P ns → Each P (valueTests s key content ++ ns)
+  pub value-then : (s : Settings) (key content : List ℕ) (ns : List ℕ) → P 4 → P 6 → Each P ns → Each P (valueTests s key content ++ ns)
   unfolding keyTest valueTest
   value-then s key content ns four six h = also (refuse-is 4 _ four) (also (refuse-is 6 _ six) h)
 
@@ -84,7 +85,7 @@ module _ (P : ℕ → Type 0) (zero-is : P 0) where
   unfolding slotTest
   slot-is f h seven = refuse-is 7 _ seven
 
-  chain-then : (s : Settings) (f : View) (h : ℕ) (key : Option (List ℕ)) (ns : List ℕ) → P 7 → P 8 → P 9 → P 10 → Each P ns → Each P (chainTests s f h key ++ ns)
+  pub chain-then : (s : Settings) (f : View) (h : ℕ) (key : Option (List ℕ)) (ns : List ℕ) → P 7 → P 8 → P 9 → P 10 → Each P ns → Each P (chainTests s f h key ++ ns)
   chain-then s f h key ns seven eight nine ten r = also (slot-is f h seven) (also (head-is s key (f h) eight nine) (also (walk-is s f (filled f) nine ten h) r))
 
   key-is : (s : Settings) (key : Option (List ℕ)) → P 4 → P (checkedKeyTest s key)
@@ -92,7 +93,7 @@ module _ (P : ℕ → Type 0) (zero-is : P 0) where
   key-is s none four = zero-is
   key-is s (some k) four = refuse-is 4 _ four
 
-  free-is : (o : Option (List ℕ)) → P 11 → P (freeListTest o)
+  pub free-is : (o : Option (List ℕ)) → P 11 → P (freeListTest o)
   unfolding freeListTest
   free-is none eleven = eleven
   free-is (some l) eleven = zero-is
@@ -234,3 +235,18 @@ visits-are s k h t out len mark c visits e =
     let p = chain-passed s f h k (first-both (chainTests s f h k) _ (b .1) .0) in
     let q : visits ≡ length (walk s f (filled f) h .slots) = cc (r .1) in
     (p .0, q, omega (arith, p .1))
+
+-- a fixed read that succeeds visits its one slot, which is the whole chain
+pub fixed-visits-are : (s : Settings) (k : Option (List ℕ)) (h : ℕ) (t : List ℕ) (len : ℕ) (mark : Bool) (c visits : ℕ) → findFixed s k h t ≡ found len mark c visits
+    → (walk s (view (s .size) t) (filled (view (s .size) t)) h .slots ≡ h ∷ []) × (visits ≡ 1) × (visits ≤ filled (view (s .size) t) - 1)
+unfolding findFixed lookFixed fixedTests
+fixed-visits-are s k h t len mark c visits e =
+    let f : View = view (s .size) t in
+    let r = unless-found _ [] _ len mark c visits e in
+    let o = first-pass (refuse 1 (s .multipart)) _ (r .0) in
+    let a = first-both (tableTests s f (capacity s t)) _ (o .1) in
+    let b = first-pass (checkedKeyTest s k) _ (a .1) in
+    let p = chain-passed s f h k (b .1) in
+    let w : walk s f (filled f) h .slots ≡ h ∷ [] = ap (λ (x : Walk). x .slots) (walk-fixed s f (filled f) h (passed 1 (s .multipart) (omega arith) (o .0))) in
+    let v : visits ≡ 1 = cc (r .1) in
+    (w, v, omega (arith, p .1, ap length w))

@@ -1,6 +1,9 @@
--- Demand 3 said of the code, and tightness. What is promised: Histories, Tight, StationTight, Dummies. Performed is what both speak of.
+-- Demand 3 said of the code, and tightness. What is promised: Histories, EachCall, Tight, StationTight, StationParts, Dummies. Performed is
+-- what all but the station's speak of.
 pub mod Performed
 pub mod Histories
+pub mod EachCall
 pub mod Tight
 pub mod StationTight
+pub mod StationParts
 pub mod Dummies
