@@ -187,7 +187,7 @@ fn step(i: usize) -> i32 {
 /// The five calls at one size, and the fixed read where there is one.
 fn calls(make: impl Fn() -> Case, bytes: usize, folders: &mut Folders) -> Vec<Measure> {
     let multipart = make().kind.multipart();
-    let (tables, calls, rounds) = if multipart { (4, 8, 600) } else { (32, 64, 4_000) };
+    let (tables, calls, rounds) = if multipart { (4, 8, 2_000) } else { (32, 64, 10_000) };
     let mut all = vec![
         Writing { call: "insert", tables, calls: 1, rounds, ours: insert_ours, rust: insert_rust, restore: whole }
             .measure(bytes, make(), folders),
@@ -319,7 +319,7 @@ pub fn sizes(folders: &mut Folders) -> Vec<Measure> {
 pub fn growth(shuffled: bool, folders: &mut Folders) -> Vec<Measure> {
     let measure = |members: usize| {
         let tables = (4_000 / (members + 1)).clamp(1, 16);
-        let rounds = (2_000_000 / (members + 1)).clamp(100, 1_500);
+        let rounds = (8_000_000 / (members + 1)).clamp(200, 4_000);
         Writing { call: "insert", tables, calls: 1, rounds, ours: insert_ours, rust: insert_rust, restore: one_slot }.measure(
             members,
             tables::grown(members, shuffled),
