@@ -6,7 +6,8 @@ use std::{fmt::Write, fs, path::Path, process::Command};
 const START: &str = "<!-- measured: written by ./bench -->";
 const END: &str = "<!-- end of what was measured -->";
 
-/// A 64 KiB read may take this many times memcpy.
+/// A read of this many bytes may take this many times memcpy.
+pub const COPY_BYTES: usize = 65_536;
 pub const COPY_TARGET: f64 = 1.3;
 
 /// With a comma at each thousand.
@@ -67,11 +68,14 @@ fn version(program: &str, argument: &str) -> Option<String> {
 /// The machine and how busy it was.
 pub fn machine() -> String {
     let cpu = fs::read_to_string("/proc/cpuinfo").unwrap_or_default();
-    let model = cpu.lines().find_map(|line| line.strip_prefix("model name")).map_or("a CPU that is not named", |rest| rest.trim_matches([' ', '\t', ':']));
+    let model = cpu
+        .lines()
+        .find_map(|line| line.strip_prefix("model name"))
+        .map_or("a CPU that is not named", |rest| rest.trim_matches([' ', '\t', ':']));
     let cores = std::thread::available_parallelism().map_or(1, |n| n.get());
     let load = fs::read_to_string("/proc/loadavg").unwrap_or_default();
     let load = load.split(' ').next().unwrap_or("unknown");
-    let mut text = format!("{model}, {cores} cores; load over the last minute before the run {load}, of which the run used none");
+    let mut text = format!("{model}, {cores} cores; load average over the minute before the run {load}");
     for said in [version("rustc", "--version"), version("rt", "version")].into_iter().flatten() {
         write!(text, "; {said}").unwrap();
     }
@@ -80,7 +84,8 @@ pub fn machine() -> String {
 
 fn writing(text: &mut String, measures: &[Measure]) {
     *text += "Writing calls, ns a call. The ratios are the library's time over the Rust's; the target is at most 1.\n\n";
-    *text += "| Call | Content | Library | Rust, plan and enactment | its plan alone | the log's share | Ratio | without the log's share |\n";
+    *text +=
+        "| Call | Content | Library | Rust, plan and enactment | its plan alone | the log's share | Ratio | without the log's share |\n";
     *text += "|---|---:|---:|---:|---:|---:|---:|---:|\n";
     for m in measures.iter().filter(|m| !is_read(m)) {
         let t = &m.times;
@@ -116,6 +121,18 @@ fn growing(text: &mut String, in_order: &[Measure], shuffled: &[Measure]) {
         let cells = [&a.times.ours, &b.times.ours, &b.times.rust].map(|samples| nanoseconds(samples.median())).join(" | ");
         writeln!(text, "| {} | {cells} |", grouped(a.bytes)).unwrap();
     }
+    if let Some(members) = crossing(shuffled) {
+        writeln!(text, "\nIn any order the library's insert is the faster one up to about {members:.0} members.").unwrap();
+    }
+}
+
+/// Where two lines cross, between members: the library's rises from below the Rust's.
+fn crossing(measures: &[Measure]) -> Option<f64> {
+    let over = |m: &Measure| (m.times.ours.median() / m.times.rust.median()).ln();
+    let pair = measures.windows(2).find(|pair| over(&pair[0]) <= 0.0 && over(&pair[1]) > 0.0)?;
+    let (a, b) = (over(&pair[0]), over(&pair[1]));
+    let (x, y) = ((pair[0].bytes.max(1) as f64).ln(), (pair[1].bytes as f64).ln());
+    Some((x + (y - x) * a / (a - b)).exp())
 }
 
 /// A target and those that miss it.
@@ -126,7 +143,9 @@ fn target(text: &mut String, words: &str, misses: Vec<String>) {
 
 fn targets(text: &mut String, measures: &[Measure]) {
     let missing = |judged: &dyn Fn(&Measure) -> Option<f64>, most: f64| -> Vec<String> {
-        let over = |m: &Measure| judged(m).filter(|found| *found > most).map(|found| format!("{} of {} bytes ({})", m.call, grouped(m.bytes), ratio(found)));
+        let over = |m: &Measure| {
+            judged(m).filter(|found| *found > most).map(|found| format!("{} of {} bytes ({})", m.call, grouped(m.bytes), ratio(found)))
+        };
         measures.iter().filter_map(over).collect()
     };
     *text += "\nTargets:\n\n";
@@ -136,7 +155,7 @@ fn targets(text: &mut String, measures: &[Measure]) {
     target(text, words, missing(&|m| (!is_read(m)).then(|| to_rust_without_log(m)), 1.0));
     target(text, "reads no slower than the Rust's read", missing(&|m| is_read(m).then(|| to_rust(m)), 1.0));
     let words = "a read of 65,536 bytes at most 1.3 times memcpy";
-    target(text, words, missing(&|m| (m.call == "read" && m.bytes == 65_536).then(|| to_memcpy(m)), COPY_TARGET));
+    target(text, words, missing(&|m| (m.call == "read" && m.bytes == COPY_BYTES).then(|| to_memcpy(m)), COPY_TARGET));
 }
 
 /// All that was measured, as it stands in the document.

@@ -1,6 +1,6 @@
 //! The benchmark: the library's calls and the Rust's in one process on the same tables. It prints what it measured, writes it between
 //! the marks of docs/SPEED.md, and draws docs/speed.svg. `./bench` in the repository's root builds and runs it; docs/SPEED.md says
-//! what is timed and what is not.
+//! what is timed and what is not. With `--quick` a fiftieth of the rounds are run, and the documents stay as they are.
 
 #[cfg(station)]
 mod document;
@@ -20,18 +20,20 @@ fn main() {
         println!("skipped: the Rust's files are not in ../shared/docs/src/src beside the repository, so there is nothing to compare with");
         return;
     }
+    let quick = std::env::args().any(|argument| argument == "--quick");
+    let rounds = if quick { 0.02 } else { 1.0 };
     let machine = document::machine();
     let mut folders = tables::Folders::new();
     let mut measures = measure::sizes(&mut folders);
     let mut in_order = measure::growth(false, &mut folders);
     let mut shuffled = measure::growth(true, &mut folders);
     original::Table::unlimited();
-    measure::run(&mut measures);
-    measure::run(&mut in_order);
-    measure::run(&mut shuffled);
+    measure::run(&mut measures, rounds);
+    measure::run(&mut in_order, rounds);
+    measure::run(&mut shuffled, rounds);
     let text = document::text(&machine, &measures, &in_order, &shuffled);
     println!("{text}");
-    if std::env::args().any(|argument| argument == "--only-print") {
+    if quick {
         return;
     }
     let docs = std::path::Path::new(env!("CARGO_MANIFEST_DIR")).join("../docs");

@@ -47,11 +47,12 @@ pub struct Measure {
     round: Box<dyn FnMut(&mut Times, bool)>,
 }
 
-/// Runs all measures, in turn and several times over.
-pub fn run(measures: &mut [Measure]) {
+/// Runs all measures, in turn and several times over; `part` is how many of their rounds.
+pub fn run(measures: &mut [Measure], part: f64) {
     for _ in 0..PASSES {
         for measure in measures.iter_mut() {
-            for i in 0..measure.rounds.div_ceil(PASSES) {
+            let rounds = (measure.rounds as f64 * part).ceil() as usize;
+            for i in 0..rounds.div_ceil(PASSES) {
                 (measure.round)(&mut measure.times, i % 2 == 0);
             }
         }
@@ -189,8 +190,11 @@ fn calls(make: impl Fn() -> Case, bytes: usize, folders: &mut Folders) -> Vec<Me
     let multipart = make().kind.multipart();
     let (tables, calls, rounds) = if multipart { (4, 8, 2_000) } else { (32, 64, 10_000) };
     let mut all = vec![
-        Writing { call: "insert", tables, calls: 1, rounds, ours: insert_ours, rust: insert_rust, restore: whole }
-            .measure(bytes, make(), folders),
+        Writing { call: "insert", tables, calls: 1, rounds, ours: insert_ours, rust: insert_rust, restore: whole }.measure(
+            bytes,
+            make(),
+            folders,
+        ),
         Writing {
             call: "replace",
             tables: 1,

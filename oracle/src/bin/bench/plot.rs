@@ -2,7 +2,7 @@
 //! the reader's light or dark scheme.
 
 use crate::{
-    document::{grouped, is_read, ratio, to_memcpy, to_rust, to_rust_without_log, COPY_TARGET},
+    document::{grouped, is_read, ratio, to_memcpy, to_rust, to_rust_without_log, COPY_BYTES, COPY_TARGET},
     measure::Measure,
 };
 use std::fmt::Write;
@@ -54,10 +54,6 @@ impl Drawing {
         writeln!(self.text, r#"<circle class="{class}" cx="{:.1}" cy="{:.1}" r="{radius}"/>"#, at.0, at.1).unwrap();
     }
 
-    fn bar(&mut self, class: &str, at: (f64, f64), width: f64, height: f64) {
-        writeln!(self.text, r#"<rect class="{class}" x="{:.1}" y="{:.1}" width="{width:.1}" height="{height}" rx="2"/>"#, at.0, at.1).unwrap();
-    }
-
     fn word(&mut self, class: &str, at: (f64, f64), words: &str) {
         writeln!(self.text, r#"<text class="{class}" x="{:.1}" y="{:.1}">{words}</text>"#, at.0, at.1).unwrap();
     }
@@ -78,7 +74,8 @@ impl Drawing {
         for value in values {
             let x = axis.at(*value);
             self.line("grid", (x, self.y), (x, bottom));
-            self.word("soft small middle", (x, bottom + 17.0), &value.to_string());
+            let words = if *value < 1_000.0 { value.to_string() } else { grouped(*value as usize) };
+            self.word("soft small middle", (x, bottom + 17.0), &words);
         }
     }
 
@@ -102,8 +99,8 @@ fn ratios(d: &mut Drawing, measures: &[Measure]) {
     d.title("Each call's time over the Rust's");
     d.dot("ours", (LEFT + 6.0, d.y - 4.0), 5.0);
     d.word("soft small", (LEFT + 17.0, d.y), "over plan and enactment, or over the read");
-    d.dot("hollow thick", (LEFT + 286.0, d.y - 4.0), 4.0);
-    d.word("soft small", (LEFT + 297.0, d.y), "the log's share taken off the Rust's time");
+    d.dot("hollow thick", (LEFT + 316.0, d.y - 4.0), 4.0);
+    d.word("soft small", (LEFT + 327.0, d.y), "the log's share taken off the Rust's time");
     d.y += 34.0;
     let axis = Axis { least: 0.01, most: 2.0, from: LEFT, to: RIGHT };
     let (row, gap) = (23.0, 32.0);
@@ -130,42 +127,51 @@ fn ratios(d: &mut Drawing, measures: &[Measure]) {
         }
     }
     d.y = bottom + 38.0;
-    d.word("soft small middle", ((LEFT + RIGHT) / 2.0, d.y), "library's time / Rust's time, logarithmic; left of the line the library is faster");
+    d.word(
+        "soft small middle",
+        ((LEFT + RIGHT) / 2.0, d.y),
+        "library's time / Rust's time, logarithmic; left of the line the library is faster",
+    );
 }
 
 /// The copying read over memcpy, the library's and the Rust's.
 fn over_memcpy(d: &mut Drawing, measures: &[Measure]) {
     d.title("The copying read over memcpy of as many bytes");
-    d.bar("ours", (LEFT, d.y - 10.0), 12.0, 11.0);
+    d.dot("ours", (LEFT + 6.0, d.y - 4.0), 5.0);
     d.word("soft small", (LEFT + 17.0, d.y), "library, into a lent output");
-    d.bar("rust", (LEFT + 280.0, d.y - 10.0), 12.0, 11.0);
-    d.word("soft small", (LEFT + 297.0, d.y), "Rust, into a new vector");
-    d.y += 34.0;
-    let axis = Axis { least: 0.5, most: 50.0, from: LEFT, to: RIGHT };
-    let row = 44.0;
+    d.dot("rust", (LEFT + 316.0, d.y - 4.0), 5.0);
+    d.word("soft small", (LEFT + 327.0, d.y), "Rust, into a new vector");
+    d.y += 18.0;
+    let axis = Axis { least: 0.8, most: 40.0, from: LEFT, to: RIGHT };
+    let row = 52.0;
     let reads: Vec<&Measure> = measures.iter().filter(|m| m.call == "read").collect();
     let bottom = d.y + row * reads.len() as f64 + 8.0;
-    d.grid(&axis, &[0.5, 1.0, 2.0, 5.0, 10.0, 20.0, 50.0], bottom);
-    d.target(&axis, COPY_TARGET, bottom, "target for 65,536 bytes: at most 1.3");
-    d.y += 8.0;
+    d.grid(&axis, &[1.0, 2.0, 5.0, 10.0, 20.0, 40.0], bottom);
+    let (one, limit) = (axis.at(1.0), axis.at(COPY_TARGET));
+    d.line("axis", (one, d.y), (one, bottom));
     for m in reads {
-        d.word("word end", (LEFT - 14.0, d.y + 22.0), &format!("{} bytes", grouped(m.bytes)));
+        d.word("word end", (LEFT - 14.0, d.y + row / 2.0 + 4.0), &format!("{} bytes", grouped(m.bytes)));
         let theirs = m.times.rust.median() / m.times.memcpy.median();
-        for (class, value, y) in [("ours", to_memcpy(m), d.y), ("rust", theirs, d.y + 18.0)] {
+        for (class, value, y) in [("ours", to_memcpy(m), d.y + 16.0), ("rust", theirs, d.y + 36.0)] {
             let x = axis.at(value);
-            d.bar(class, (LEFT, y), x - LEFT, 16.0);
-            d.word("word small", (x + 6.0, y + 12.0), &ratio(value));
+            d.line(&format!("{class}-line thick"), (one, y), (x, y));
+            d.dot(class, (x, y), 5.0);
+            let right = if m.bytes == COPY_BYTES { x.max(limit) } else { x };
+            d.word("word small", (right + 10.0, y + 4.0), &ratio(value));
+        }
+        if m.bytes == COPY_BYTES {
+            d.line("target thick dashed", (limit, d.y + 4.0), (limit, d.y + row - 4.0));
+            d.word("target-word small", (axis.at(2.0) + 14.0, d.y + row / 2.0 + 4.0), "target: at most 1.3");
         }
         d.y += row;
     }
     d.y = bottom + 38.0;
-    d.word("soft small middle", ((LEFT + RIGHT) / 2.0, d.y), "time / memcpy's time, logarithmic");
+    d.word("soft small middle", ((LEFT + RIGHT) / 2.0, d.y), "time / memcpy's time, logarithmic; memcpy itself is 1");
 }
 
-/// Insert's time by the length of the free list. The lists of no members stand at the left edge.
+/// Insert's time by the length of the free list. A list of no members has no place on a logarithmic axis: the tables have it.
 fn growing(d: &mut Drawing, in_order: &[Measure], shuffled: &[Measure]) {
-    d.title("Insert of 32 bytes at E = 64 as the free list grows");
-    d.y += 4.0;
+    d.title("Insert of 32 bytes at E = 64 as the free list grows: time of a call");
     let (top, bottom) = (d.y, d.y + 300.0);
     let x_axis = Axis { least: 1.0, most: 30_000.0, from: LEFT - 40.0, to: RIGHT - 90.0 };
     let y_axis = Axis { least: 10.0, most: 1_000_000.0, from: bottom, to: top };
@@ -178,7 +184,7 @@ fn growing(d: &mut Drawing, in_order: &[Measure], shuffled: &[Measure]) {
     let rust = |m: &Measure| m.times.rust.median();
     let ours = |m: &Measure| m.times.ours.median();
     let series: [(&str, &str, &str, &[Measure], &dyn Fn(&Measure) -> f64, f64); 3] = [
-        ("ours-line thick", "ours", "library, any order", shuffled, &ours, 0.0),
+        ("ours-line thick", "ours", "library, any order", shuffled, &ours, -4.0),
         ("ours-line thick dashed", "ours", "library, in order", in_order, &ours, 14.0),
         ("rust-line thick", "rust", "Rust", shuffled, &rust, 0.0),
     ];
@@ -192,7 +198,7 @@ fn growing(d: &mut Drawing, in_order: &[Measure], shuffled: &[Measure]) {
         }
     }
     d.y = bottom + 38.0;
-    d.word("soft small middle", ((x_axis.from + x_axis.to) / 2.0, d.y), "members of the free list, logarithmic; the time is logarithmic too");
+    d.word("soft small middle", ((x_axis.from + x_axis.to) / 2.0, d.y), "members of the free list; both axes are logarithmic");
 }
 
 pub fn drawing(measures: &[Measure], in_order: &[Measure], shuffled: &[Measure]) -> String {
