@@ -5,6 +5,8 @@
 
 mod compare;
 mod explain;
+#[cfg(station)]
+mod functions;
 mod make;
 mod model;
 mod random;

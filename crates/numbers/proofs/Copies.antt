@@ -1,12 +1,13 @@
--- Parts of one list put side by side into another are one part put (`turn`): a copy in runs of any length is a copy.
+-- Parts of one list put side by side into another are one part put (`turn`), and so are parts that overlap (`again`): a copy in runs of any
+-- length is a copy.
 use mathlib.Core.Path.{_≡_, refl, sym, ap, _∙_}
 use mathlib.Core.List.{List, [], _∷_, _++_}
 use Prim.Native.Nat.{ℕ, suc, _+_, _-_, _≤_, _<_}
 use native.Mathlib.Numerals.{add-one}
 use native.Mathlib.Omega.{arith}
-use lib.ListN.{length, take, drop, getD, set}
-use lib.Seq.{take-add, drop-drop, drop-cons, set-split, append-snoc}
-use Rattle.definition.specs.Numbers.{bytes, num, put}
+use lib.ListN.{length, take, drop, getD, set, length-take}
+use lib.Seq.{take-add, take-at, drop-at, drop-drop, drop-cons, set-split, append-snoc}
+use Rattle.definition.specs.Numbers.{bytes, num, over, put}
 use Rattle.laws.proofs.Bytes.{AllBytes, bytes-num}
 use Rattle.laws.proofs.Lists.{length-part}
 use Rattle.laws.proofs.Puts.{put-is, put-none, put-next, length-put}
@@ -23,6 +24,43 @@ turn s d x y from to i k p q e g =
 
 pub length-run : (s d x : List ℕ) (from to i : ℕ) → from + i ≤ length s → to + i ≤ length d → x ≡ put d to (take i (drop from s)) → length x ≡ length d
 length-run s d x from to i p q e = ap length e ∙ length-put d to (take i (drop from s)) (omega (arith, length-part s from i p))
+
+-- what comes after bytes that lie over the front is as it was
+drop-past : (p l : List ℕ) (n : ℕ) → length p ≤ n → drop n (p ++ drop (length p) l) ≡ drop n l
+drop-past p l n h =
+    let m = n - length p in
+    let e : length p + m ≡ n = omega arith in
+    ap (λ (j : ℕ). drop j (p ++ drop (length p) l)) (sym e)
+    ∙ sym (drop-drop m (length p) (p ++ drop (length p) l))
+    ∙ ap (drop m) (drop-at p (drop (length p) l) (length p) refl)
+    ∙ drop-drop m (length p) l
+    ∙ ap (λ (j : ℕ). drop j l) e
+
+-- what is put at a place hides what was put there before, if that was no longer
+put-again : (t : List ℕ) (at : ℕ) (p q : List ℕ) → at ≤ length t → length p ≤ length q → put (put t at p) at q ≡ put t at q
+unfolding put over
+put-again t at p q h g =
+    let rest = p ++ drop (length p) (drop at t) in
+    let e : length (take at t) ≡ at = rw length-take (omega arith) in
+    ap (λ (l : List ℕ). l ++ (q ++ drop (length q) (drop at (take at t ++ rest)))) (take-at (take at t) rest at e)
+    ∙ ap (λ (l : List ℕ). take at t ++ (q ++ drop (length q) l)) (drop-at (take at t) rest at e)
+    ∙ ap (λ (l : List ℕ). take at t ++ (q ++ l)) (drop-past p (drop at t) (length q) g)
+
+-- i bytes were put, and k from the j-th on, some of them a second time
+pub again : (s d x y : List ℕ) (from to i j k : ℕ) → from + (j + k) ≤ length s → to + (j + k) ≤ length d → j ≤ i → i ≤ j + k
+    → x ≡ put d to (take i (drop from s)) → y ≡ put x (to + j) (take k (drop (from + j) s)) → y ≡ put d to (take (j + k) (drop from s))
+again s d x y from to i j k p q h g e₁ e₂ =
+    let m = i - j in
+    let w = put d to (take j (drop from s)) in
+    let old = take m (drop (from + j) s) in
+    let new = take k (drop (from + j) s) in
+    let same : put w (to + j) old ≡ x =
+    turn s d w (put w (to + j) old) from to j m (omega arith) (omega arith) refl refl
+    ∙ (let e : j + m ≡ i = omega arith in rw e (sym e₁)) in
+    let long : length w ≡ length d = length-run s d w from to j (omega arith) (omega arith) refl in
+    let shorter : length old ≤ length new = omega (arith, length-part s (from + j) m (omega arith), length-part s (from + j) k (omega arith)) in
+    turn s d w y from to j k (omega arith) (omega arith) refl
+    (e₂ ∙ ap (λ (l : List ℕ). put l (to + j) new) (sym same) ∙ put-again w (to + j) old new (omega arith) shorter)
 
 -- one byte
 pub one : (s x : List ℕ) (from to : ℕ) → from < length s → to < length x → set x to (getD s from 0) ≡ put x to (take 1 (drop from s))
@@ -72,14 +110,22 @@ pub copied-one : (s d x : List ℕ) (from to n i : ℕ) → (from + n ≤ length
 copied-one s d x from to n i fit h c =
     copied-more s d x _ from to n i 1 fit (omega arith) c (one s x (from + i) (to + i) (omega (arith, fit .0)) (omega (arith, fit .1)))
 
--- three runs, one after the other
-pub three-runs : (s d d₁ d₂ d₃ : List ℕ) (from to n a k : ℕ) → (from + n ≤ length s) × (to + n ≤ length d)
-    → (a ≤ n) × (d₁ ≡ put d to (take a (drop from s)))
-    → (k ≤ n - a) × (d₂ ≡ put d₁ (to + a) (take k (drop (from + a) s)))
-    → d₃ ≡ put d₂ (to + (a + k)) (take (n - (a + k)) (drop (from + (a + k)) s))
-    → d₃ ≡ put d to (take n (drop from s))
-three-runs s d d₁ d₂ d₃ from to n a k fit h₁ h₂ h₃ =
-    let c₁ : Copied s d from to n d₁ a = record { most = h₁ .0; is = h₁ .1; long = length-run s d d₁ from to a (omega (arith, fit .0, h₁ .0)) (omega (arith, fit .1, h₁ .0)) (h₁ .1) } in
-    let c₂ = copied-more s d d₁ d₂ from to n a k fit (omega (arith, h₁ .0, h₂ .0)) c₁ (h₂ .1) in
-    let c₃ = copied-more s d d₂ d₃ from to n (a + k) (n - (a + k)) fit (omega (arith, h₁ .0, h₂ .0)) c₂ h₃ in
-    copied-all s d from to n d₃ (a + k + (n - (a + k))) (omega arith) c₃
+-- ---- the whole copy
+
+-- i of n bytes were put, and the last k, some of them a second time
+pub last-run : (s d x y : List ℕ) (from to n i k : ℕ) → from + n ≤ length s → to + n ≤ length d → k ≤ n → i ≤ n → n ≤ i + k
+    → x ≡ put d to (take i (drop from s)) → y ≡ put x (to + (n - k)) (take k (drop (from + (n - k)) s)) → y ≡ put d to (take n (drop from s))
+last-run s d x y from to n i k p q h f g e₁ e₂ =
+    let e : n - k + k ≡ n = omega arith in
+    rw e at (again s d x y from to i (n - k) k (omega arith) (omega arith) (omega arith) (omega arith) e₁ e₂)
+
+-- the first 32 of n bytes, a run from the k-th on, the last 32
+pub long-run : (s d x y z : List ℕ) (from to n k a : ℕ) → from + n ≤ length s → to + n ≤ length d → 64 ≤ n → k ≤ 32
+    → x ≡ put d to (take 32 (drop from s))
+    → (a ≤ n - k) × (n - k < a + 32) × (y ≡ put x (to + k) (take a (drop (from + k) s)))
+    → z ≡ put y (to + (n - 32)) (take 32 (drop (from + (n - 32)) s)) → z ≡ put d to (take n (drop from s))
+long-run s d x y z from to n k a p q h f e₁ run e₃ =
+    let most : a ≤ n - k = run .0 in
+    let least : n - k < a + 32 = run .1 in
+    last-run s d y z from to n (k + a) 32 p q (omega arith) (omega arith) (omega arith)
+    (again s d x y from to 32 k a (omega arith) (omega arith) f (omega arith) e₁ (run .2)) e₃

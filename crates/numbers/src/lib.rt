@@ -2,7 +2,7 @@
 // Nothing here knows of slots or tables.
 ghost use mathlib.Core.Path.{_≡_};
 ghost use mathlib.Core.List.{[], _∷_};
-ghost use Prim.Native.Nat.{_+_, _≤_};
+ghost use Prim.Native.Nat.{_+_, _≤_, _<_};
 ghost use lib.ListN.{length, take, drop, getD};
 ghost use Rattle.definition.specs.Numbers.{bytes, num, put};
 ghost use Rattle.definition.specs.Slots.{marked};
@@ -108,7 +108,7 @@ fn copy32(src: &[u8], from: usize, dst: &mut [u8], to: usize)
 // Copies as many of n bytes as make whole runs of 32, and answers how many.
 fn run32(src: &[u8], from: usize, n: usize, dst: &mut [u8], to: usize) -> usize
     requires { ⌜ (from + n ≤ length (now src)) × (to + n ≤ length (now dst)) ⌝ }
-    ensures { λ r. ⌜ (r ≤ n) × (now (dst .exit) ≡ put (now (dst .entry)) to (take r (drop from (now (src .entry))))) ⌝ }
+    ensures { λ r. ⌜ (r ≤ n) × (n < r + 32) × (now (dst .exit) ≡ put (now (dst .entry)) to (take r (drop from (now (src .entry))))) ⌝ }
 {
     let mut i = 0;
     while 32 <= n - i {
@@ -121,7 +121,7 @@ fn run32(src: &[u8], from: usize, n: usize, dst: &mut [u8], to: usize) -> usize
 // Copies as many of n bytes as make whole runs of 8, and answers how many.
 fn run8(src: &[u8], from: usize, n: usize, dst: &mut [u8], to: usize) -> usize
     requires { ⌜ (from + n ≤ length (now src)) × (to + n ≤ length (now dst)) ⌝ }
-    ensures { λ r. ⌜ (r ≤ n) × (now (dst .exit) ≡ put (now (dst .entry)) to (take r (drop from (now (src .entry))))) ⌝ }
+    ensures { λ r. ⌜ (r ≤ n) × (n < r + 8) × (now (dst .exit) ≡ put (now (dst .entry)) to (take r (drop from (now (src .entry))))) ⌝ }
 {
     let mut i = 0;
     while 8 <= n - i {
@@ -143,12 +143,55 @@ fn run1(src: &[u8], from: usize, n: usize, dst: &mut [u8], to: usize)
     }
 }
 
-// Copies n bytes of src, from `from` on, into dst at `to`: by 32, by 8, then one by one.
+// Copies n bytes, 8 at least: by 8, then the last 8, some of them a second time.
+fn copy_words(src: &[u8], from: usize, n: usize, dst: &mut [u8], to: usize)
+    requires { ⌜ (from + n ≤ length (now src)) × (to + n ≤ length (now dst)) × (8 ≤ n) ⌝ }
+    ensures { λ _. ⌜ now (dst .exit) ≡ put (now (dst .entry)) to (take n (drop from (now (src .entry)))) ⌝ }
+{
+    run8(src, from, n, dst, to);
+    let last = n - 8;
+    copy8(src, from + last, dst, to + last);
+}
+
+// Copies n bytes, 32 to 64: the first 32, then the last 32.
+fn copy_ends(src: &[u8], from: usize, n: usize, dst: &mut [u8], to: usize)
+    requires { ⌜ (from + n ≤ length (now src)) × (to + n ≤ length (now dst)) × (32 ≤ n) × (n ≤ 64) ⌝ }
+    ensures { λ _. ⌜ now (dst .exit) ≡ put (now (dst .entry)) to (take n (drop from (now (src .entry)))) ⌝ }
+{
+    copy32(src, from, dst, to);
+    let last = n - 32;
+    copy32(src, from + last, dst, to + last);
+}
+
+// Copies n bytes, 64 at least: the first 32, then by 32 from the next place in dst that is a multiple of 32, then the last 32. Stores
+// that straddle two lines of the cache cost twice.
+fn copy_long(src: &[u8], from: usize, n: usize, dst: &mut [u8], to: usize)
+    requires { ⌜ (from + n ≤ length (now src)) × (to + n ≤ length (now dst)) × (64 ≤ n) ⌝ }
+    ensures { λ _. ⌜ now (dst .exit) ≡ put (now (dst .entry)) to (take n (drop from (now (src .entry)))) ⌝ }
+{
+    copy32(src, from, dst, to);
+    let k = 32 - to % 32;
+    run32(src, from + k, n - k, dst, to + k);
+    let last = n - 32;
+    copy32(src, from + last, dst, to + last);
+}
+
+// Copies n bytes of src, from `from` on, into dst at `to`.
 pub fn copy(src: &[u8], from: usize, n: usize, dst: &mut [u8], to: usize)
     requires { ⌜ (from + n ≤ length (now src)) × (to + n ≤ length (now dst)) ⌝ }
     ensures { λ _. ⌜ now (dst .exit) ≡ put (now (dst .entry)) to (take n (drop from (now (src .entry)))) ⌝ }
 {
-    let a = run32(src, from, n, dst, to);
-    let b = a + run8(src, from + a, n - a, dst, to + a);
-    run1(src, from + b, n - b, dst, to + b);
+    if n < 8 {
+        run1(src, from, n, dst, to);
+        return;
+    }
+    if n < 32 {
+        copy_words(src, from, n, dst, to);
+        return;
+    }
+    if n < 64 {
+        copy_ends(src, from, n, dst, to);
+        return;
+    }
+    copy_long(src, from, n, dst, to);
 }

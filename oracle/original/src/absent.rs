@@ -13,6 +13,10 @@ pub struct Table(Infallible);
 
 pub struct Plan<'a>(Infallible, std::marker::PhantomData<&'a ()>);
 
+pub struct Planned(Infallible);
+
+pub type Entry = (u64, Vec<u8>);
+
 type Answer<T> = std::result::Result<T, Infallible>;
 
 impl Table {
@@ -45,6 +49,34 @@ impl Table {
     }
 
     pub fn file_len(&self) -> u64 {
+        match self.0 {}
+    }
+
+    pub fn unlimited() {}
+
+    pub fn plan<T>(&self, _: impl FnOnce(&mut Plan) -> Answer<T>) -> Answer<(T, Planned)> {
+        match self.0 {}
+    }
+
+    pub fn enact(&self, _: &Planned) -> Answer<()> {
+        match self.0 {}
+    }
+
+    pub fn query(&self, _: u64, _: &Key) -> Answer<Option<(Vec<u8>, bool, u32)>> {
+        match self.0 {}
+    }
+
+    pub fn restore(&mut self, _: usize, _: &[u8]) {
+        match self.0 {}
+    }
+
+    pub fn log_alone(&self, _: Vec<Entry>) {
+        match self.0 {}
+    }
+}
+
+impl Planned {
+    pub fn entries(&self, _: &Table) -> Vec<Entry> {
         match self.0 {}
     }
 }

@@ -3,7 +3,7 @@
 
 use crate::{
     error::{Error, Result},
-    log::{LogOverlays, LogReader, LogWriter},
+    log::{LogChange, LogOverlays, LogReader, LogWriter},
     mmap::{self, Mmap, Stopped},
     options::ColumnOptions,
     parking_lot::RwLock,
@@ -200,5 +200,70 @@ impl Plan<'_> {
     /// The free count before the commit.
     pub fn free_count(&mut self) -> Result<u64> {
         self.table.check_free_refs()
+    }
+}
+
+/// A plan that is completed: what the log holds of it.
+pub struct Planned(LogChange);
+
+/// One entry of the log: a slot, and what is written over its front.
+pub type Entry = (u64, Vec<u8>);
+
+impl Planned {
+    /// A copy of the entries of the table's log.
+    pub fn entries(&self, table: &Table) -> Vec<Entry> {
+        let changes = self.0.local_values_changes(table.table.id);
+        changes.iter().flat_map(|changes| &changes.map).map(|(slot, (_, bytes))| (*slot, bytes.clone())).collect()
+    }
+}
+
+/// What the benchmark times: the original's own steps of a commit, with nothing around them. The entries are not validated, since a
+/// running database validates none, and the header is not read again.
+impl Table {
+    /// Lifts the limit on looks, which is not meant for many calls in a row.
+    pub fn unlimited() {
+        mmap::allow(u64::MAX);
+    }
+
+    /// Plans calls and completes the plan.
+    pub fn plan<T>(&self, calls: impl FnOnce(&mut Plan) -> Result<T>) -> Result<(T, Planned)> {
+        let mut plan = Plan { table: &self.table, log: LogWriter::new(&self.overlays, 0) };
+        let answer = calls(&mut plan)?;
+        let mut log = plan.log;
+        self.table.complete_plan(&mut log)?;
+        Ok((answer, Planned(log.drain())))
+    }
+
+    /// Enacts every entry of a plan.
+    pub fn enact(&self, planned: &Planned) -> Result<()> {
+        if let Some(changes) = planned.0.local_values_changes(self.table.id) {
+            for (slot, (_, entry)) in &changes.map {
+                self.table.enact_plan(*slot, &mut LogReader::new(entry))?;
+            }
+        }
+        Ok(())
+    }
+
+    /// The record in a slot, its key checked: content, compressed mark, count.
+    pub fn query(&self, slot: u64, key: &Key) -> Result<Option<(Vec<u8>, bool, u32)>> {
+        let log = LogWriter::new(&self.overlays, 0);
+        self.table.query(&mut TableKeyQuery::Check(&TableKey::Partial(*key)), slot, &log)
+    }
+
+    /// Puts bytes into the file at a place and reads the header again.
+    pub fn restore(&mut self, at: usize, bytes: &[u8]) {
+        // The table's own slices of the file live no longer than its calls.
+        unsafe { self.view.as_ref().expect("an open table").write_at(bytes, at) };
+        self.table.refresh_metadata().expect("a header");
+    }
+
+    /// The log's own share of a commit, which is the stand-in's: each entry asked for and put into a new log, and the log dropped.
+    pub fn log_alone(&self, entries: Vec<Entry>) {
+        let mut log = LogWriter::new(&self.overlays, 0);
+        for (slot, bytes) in entries {
+            log.value(self.table.id, slot, &mut [0; 18]);
+            log.insert_value(self.table.id, slot, bytes);
+        }
+        drop(log.drain());
     }
 }

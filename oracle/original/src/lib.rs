@@ -41,12 +41,12 @@ pub use outcome::{Outcome, Read};
 #[cfg(original)]
 mod commit;
 #[cfg(original)]
-pub use commit::{Plan, Query, Table};
+pub use commit::{Entry, Plan, Planned, Query, Table};
 
 #[cfg(not(original))]
 mod absent;
 #[cfg(not(original))]
-pub use absent::{Plan, Query, Table};
+pub use absent::{Entry, Plan, Planned, Query, Table};
 
 /// Whether the original's files were there when this was built.
 pub const PRESENT: bool = cfg!(original);

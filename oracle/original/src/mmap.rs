@@ -15,8 +15,8 @@ const SHARED: i32 = 1;
 const LONGEST: usize = 4 << 20;
 
 thread_local! {
-    static LOOKS: Cell<u64> = const { Cell::new(0) };
-    static LIMIT: Cell<u64> = const { Cell::new(u64::MAX) };
+    /// How many looks were taken, and how many may be.
+    static LOOKS: Cell<(u64, u64)> = const { Cell::new((0, u64::MAX)) };
 }
 
 /// Why the stand-in stopped a call.
@@ -28,21 +28,23 @@ pub enum Stopped {
 
 /// Counts one look at a slot.
 pub fn look() {
-    let looks = LOOKS.get() + 1;
-    LOOKS.set(looks);
-    if looks > LIMIT.get() {
+    let over = LOOKS.with(|cell| {
+        let (looks, limit) = cell.get();
+        cell.set((looks + 1, limit));
+        looks >= limit
+    });
+    if over {
         std::panic::panic_any(Stopped::Endless);
     }
 }
 
 /// Starts the count of looks anew.
 pub fn allow(limit: u64) {
-    LOOKS.set(0);
-    LIMIT.set(limit);
+    LOOKS.set((0, limit));
 }
 
 pub fn looks() -> u64 {
-    LOOKS.get()
+    LOOKS.get().0
 }
 
 #[derive(Debug)]

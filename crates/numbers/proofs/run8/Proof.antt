@@ -48,7 +48,7 @@ same-length c =
 
 returns : tie.Need-returns Inv-loop μ-loop
 returns c =
-    (c .before .loop .inv .most, c .before .loop .inv .is)
+    (c .before .loop .inv .most, omega arith, c .before .loop .inv .is)
 
 pub run8-spec : {M : Type 1} → statement M
 run8-spec =

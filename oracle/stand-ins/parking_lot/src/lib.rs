@@ -1,7 +1,11 @@
 //! Stand-in for the crate `parking_lot`: a lock over the standard library's, without poisoning, and a read guard that can be
-//! narrowed to a part of what it guards.
+//! narrowed to a part of what it guards. As in the crate, narrowing allocates nothing.
 
-use std::ops::{Deref, DerefMut};
+use std::{
+    marker::PhantomData,
+    mem::{size_of, MaybeUninit},
+    ops::{Deref, DerefMut},
+};
 
 #[derive(Debug, Default)]
 pub struct RwLock<T>(std::sync::RwLock<T>);
@@ -13,12 +17,18 @@ pub struct RwLockWriteGuard<'a, T>(std::sync::RwLockWriteGuard<'a, T>);
 /// A guard of a part: the part, and the lock held as long as the guard lives.
 pub struct MappedRwLockReadGuard<'a, U: ?Sized> {
     part: *const U,
-    _held: Box<dyn Held + 'a>,
+    held: Held,
+    release: unsafe fn(&mut Held),
+    lock: PhantomData<&'a ()>,
 }
 
-trait Held {}
+/// Room for the guard of the whole, whatever that is.
+type Held = MaybeUninit<[usize; 2]>;
 
-impl<T> Held for std::sync::RwLockReadGuard<'_, T> {}
+/// Drops the guard of a `T` that is held.
+unsafe fn release<T>(held: &mut Held) {
+    std::ptr::drop_in_place(held.as_mut_ptr() as *mut std::sync::RwLockReadGuard<'_, T>)
+}
 
 impl<T> RwLock<T> {
     pub fn new(value: T) -> Self {
@@ -36,8 +46,11 @@ impl<T> RwLock<T> {
 
 impl<'a, T> RwLockReadGuard<'a, T> {
     pub fn map<U: ?Sized, F: FnOnce(&T) -> &U>(guard: Self, part_of: F) -> MappedRwLockReadGuard<'a, U> {
+        const { assert!(size_of::<std::sync::RwLockReadGuard<'_, T>>() <= size_of::<Held>()) };
         let part: *const U = part_of(&guard.0);
-        MappedRwLockReadGuard { part, _held: Box::new(guard.0) }
+        let mut held = Held::uninit();
+        unsafe { (held.as_mut_ptr() as *mut std::sync::RwLockReadGuard<'a, T>).write(guard.0) };
+        MappedRwLockReadGuard { part, held, release: release::<T>, lock: PhantomData }
     }
 }
 
@@ -69,5 +82,12 @@ impl<U: ?Sized> Deref for MappedRwLockReadGuard<'_, U> {
     fn deref(&self) -> &U {
         // The part lies in what the held lock guards, and that does not move while it is held.
         unsafe { &*self.part }
+    }
+}
+
+impl<U: ?Sized> Drop for MappedRwLockReadGuard<'_, U> {
+    fn drop(&mut self) {
+        // Written when the guard was made, and released here alone.
+        unsafe { (self.release)(&mut self.held) }
     }
 }

@@ -1,0 +1,49 @@
+//! The benchmark: the library's calls and the Rust's in one process on the same tables. It prints what it measured, writes it between
+//! the marks of docs/SPEED.md, and draws docs/speed.svg. `./bench` in the repository's root builds and runs it; docs/SPEED.md says
+//! what is timed and what is not. With `--quick` a fiftieth of the rounds are run, and the documents stay as they are.
+
+#[cfg(station)]
+mod document;
+#[cfg(station)]
+#[path = "../../functions.rs"]
+mod functions;
+#[cfg(station)]
+mod measure;
+#[cfg(station)]
+mod plot;
+#[cfg(station)]
+mod tables;
+
+#[cfg(station)]
+fn main() {
+    if !original::PRESENT {
+        println!("skipped: the Rust's files are not in ../shared/docs/src/src beside the repository, so there is nothing to compare with");
+        return;
+    }
+    let quick = std::env::args().any(|argument| argument == "--quick");
+    let rounds = if quick { 0.02 } else { 1.0 };
+    let machine = document::machine();
+    let mut folders = tables::Folders::new();
+    let mut measures = measure::sizes(&mut folders);
+    let mut in_order = measure::growth(false, &mut folders);
+    let mut shuffled = measure::growth(true, &mut folders);
+    original::Table::unlimited();
+    measure::run(&mut measures, rounds);
+    measure::run(&mut in_order, rounds);
+    measure::run(&mut shuffled, rounds);
+    let text = document::text(&machine, &measures, &in_order, &shuffled);
+    println!("{text}");
+    if quick {
+        return;
+    }
+    let docs = std::path::Path::new(env!("CARGO_MANIFEST_DIR")).join("../docs");
+    document::write(&docs.join("SPEED.md"), &text);
+    let drawing = plot::drawing(&measures, &in_order, &shuffled);
+    std::fs::write(docs.join("speed.svg"), drawing).expect("docs/speed.svg");
+    println!("written: docs/SPEED.md, docs/speed.svg");
+}
+
+#[cfg(not(station))]
+fn main() {
+    println!("skipped: target/staticlib/libstation.a was not there when this was built; `rt staticlib station` writes it");
+}
