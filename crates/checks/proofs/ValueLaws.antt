@@ -82,13 +82,17 @@ module _ (s : Settings) (body : List ℕ) (n : ℕ) (long : length body ≡ n) w
         let c = cut-count (s .size) (length body) (drop (s .size - headOverhead s) body) (omega arith) (omega arith) in
         ap length (cond-yes (s .multipart) _ _ m) ∙ ap suc (c ∙ ap (λ (k : ℕ). (k - (s .size - 2) + (s .size - 10 - 1)) / (s .size - 10) + 1) d) ∙ omega arith
 
-    pub parts-two : n - (s .size - o) ≤ s .size - 2 → 2 ≡ length (pieces s body)
+    -- a head and a last part where the rest fits the latter, else continuations too
+    pub parts-cut : 9 ≤ n - (s .size - o) → (n - (s .size - o) - 9) / (s .size - 10) + 2 ≡ length (pieces s body)
     unfolding rest
-    parts-two q = let z : (rest - (s .size - 2) + (s .size - 10 - 1)) / (s .size - 10) ≡ 0 = div-eq-of-lt (omega arith) in omega (arith, parts)
-
-    pub parts-more : s .size - 2 < n - (s .size - o) → (n - (s .size - o) - 9) / (s .size - 10) + 2 ≡ length (pieces s body)
-    unfolding rest
-    parts-more q = ap (λ (k : ℕ). k / (s .size - 10) + 2) (nine-less (s .size) (n - (s .size - o)) h q) ∙ sym parts
+    parts-cut q = go (decLe (n - (s .size - o)) (s .size - 2))
+      where
+        go : Dec (n - (s .size - o) ≤ s .size - 2) → (n - (s .size - o) - 9) / (s .size - 10) + 2 ≡ length (pieces s body)
+        go (yes f) =
+            let a : (n - (s .size - o) - 9) / (s .size - 10) ≡ 0 = div-eq-of-lt (omega arith) in
+            let z : (rest - (s .size - 2) + (s .size - 10 - 1)) / (s .size - 10) ≡ 0 = div-eq-of-lt (omega arith) in
+            omega (arith, parts)
+        go (no f) = ap (λ (k : ℕ). k / (s .size - 10) + 2) (nine-less (s .size) (n - (s .size - o)) h (omega arith)) ∙ sym parts
 
 -- ---- tests 4 and 6
 

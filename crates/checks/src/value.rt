@@ -40,10 +40,8 @@ fn parts_needed(s: Settings, n: usize) -> u64
         return 1;
     }
     let rest = n - (s.size - head_overhead(s));
-    if rest <= s.size - definition::SIZE_SIZE {
-        return 2;
-    }
     let full = s.size - (definition::SIZE_SIZE + definition::INDEX_SIZE);
+    // A last part holds as many bytes more than a continuation as a link has: a rest one byte longer needs one part more.
     ((rest - (definition::INDEX_SIZE + 1)) / full + 2) as u64
 }
 

@@ -1,6 +1,6 @@
 -- The calls: each an ordered list of tests, then its effect. Document 01, "Steps of each call" and "Numbers the station sees".
 -- A refused call answers its number and changes nothing. `h` is the slot number that a call is given, `t` the table's bytes.
-use Prim.Native.Nat.{ℕ, zero, suc, _+_, _-_, _/_, min}
+use Prim.Native.Nat.{ℕ, zero, suc, _+_, _-_, _*_, _/_, min}
 use mathlib.Core.Bool.{Bool, false, cond, _&&_, _||_, not}
 use mathlib.Core.List.{List, [], _∷_, _++_, headD}
 use mathlib.Core.Option.{Option, none, some}
@@ -187,6 +187,14 @@ lookFixed s key h t =
     let content = contentOf s f (h ∷ []) in
     let answer : Answer × List ℕ = (found (length content) (markOf s (f h)) (countOf s (f h)) 1, content) in
     unless (first (fixedTests s key h t)) [] answer
+
+-- where the content of the plain slot h starts in the table: after its size word and its prefix
+unfoldable pub contentStart : Settings → ℕ → ℕ
+contentStart s h = h * s .size + wordBytes + prefixLen s
+
+-- where the part that the fixed read hands back starts: at the content, at the table's start where it is refused
+unfoldable pub partStart : Settings → Option (List ℕ) → ℕ → List ℕ → ℕ
+partStart s key h t = cond (eqb (first (fixedTests s key h t)) 0) (contentStart s h) 0
 
 -- the fixed read: the content, a part of the table; empty where it is refused
 unfoldable pub readFixed : Settings → Option (List ℕ) → ℕ → List ℕ → List ℕ

@@ -91,6 +91,6 @@ performed-is (Replacing κ table after h key value mark r e) = ap wrote e
 performed-is (Removing κ table after h r e) = ap wrote e
 performed-is (Changing κ table after h step r e) = ap wrote e
 performed-is (Reading κ table h checked key output after r e) = ap (told (now table)) e
-performed-is (ReadingFixed κ table h checked key r e) = ap (λ (b : List ℕ). told (now table) (content b, [])) e
+performed-is (ReadingFixed κ table h checked key r e) = ap (λ (b : List ℕ). told (now table) (content b, [])) (e .0)
 performed-is (FindingFixed κ table h checked key r e) = ap (λ (a : Answer). told (now table) (a, [])) e
 performed-is (Counting κ table r e) = ap (λ (a : Answer). told (now table) (a, [])) e

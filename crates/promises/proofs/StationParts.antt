@@ -13,11 +13,11 @@ use contract.Lifetimes.{Lfts}
 use denote.Ref.{RefT, now}
 use Rattle.definition.specs.declared.Settings.{Settings}
 use Rattle.definition.specs.Answers.{Answer, refusal, at, accepted, count, lastReference, found, content, members}
-use Rattle.definition.specs.Calls.{unless, checkedKey, lookFixed, readFixed, findFixed}
+use Rattle.definition.specs.Calls.{unless, checkedKey, contentStart, lookFixed, readFixed, findFixed}
 use Rattle.table.proofs.ReadLaws.{PartAt, fixed-part}
 use Rattle.station.specs.declared.answers.PyltarkaSettings.{PyltarkaSettings}
 use Rattle.station.specs.declared.answers.PyltarkaPart.{PyltarkaPart}
-use Rattle.station.specs.Forms.{settingsOf, contentStart, told, partIn}
+use Rattle.station.specs.Forms.{settingsOf, told, partIn}
 use Rattle.station.proofs.pyltarka_read_fixed.Reads as read-fixed-code
 
 -- a refusal with a number above 0, or what a read tells: no other answer is one of the fixed read's companion

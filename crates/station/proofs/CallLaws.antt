@@ -13,7 +13,8 @@ use Rattle.definition.specs.Settings.{prefixLen}
 use Rattle.definition.specs.Answers.{Answer, refusal, foundOf}
 use Rattle.laws.proofs.Tests.{number-some}
 use Rattle.station.specs.declared.answers.PyltarkaPart.{PyltarkaPart}
-use Rattle.station.specs.Forms.{contentStart, partIn}
+use Rattle.definition.specs.Calls.{contentStart}
+use Rattle.station.specs.Forms.{partIn}
 
 -- a call `g` of settings that are the ones lent, with its answer in the form `f`
 pub crosses : {S X : Type 0} (f : Answer → S) (g : Settings → Answer × X) {r : S} {a : Answer} {x : X} {own lent : Settings} → r ≡ f a → own ≡ lent → (a, x) ≡ g own

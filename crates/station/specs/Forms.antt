@@ -1,11 +1,11 @@
 -- The definition's settings and answers in the form in which they cross to C: structs of numbers and booleans, `include/pyltarka.h`.
 -- `number` is 0 or the refusal, and what an answer does not tell is zero: on a refusal all but the number.
-use Prim.Native.Nat.{ℕ, _+_, _*_}
+use Prim.Native.Nat.{ℕ}
 use mathlib.Core.Bool.{Bool, false, true, cond}
 use lib.Dec.{eqb}
 use Rattle.definition.specs.declared.Settings.{Settings}
-use Rattle.definition.specs.Settings.{wordBytes, prefixLen}
 use Rattle.definition.specs.Answers.{Answer, refusal, at, accepted, count, lastReference, found, content, members}
+use Rattle.definition.specs.Calls.{contentStart}
 use Rattle.station.specs.declared.answers.PyltarkaSettings.{PyltarkaSettings}
 use Rattle.station.specs.declared.answers.PyltarkaInserted.{PyltarkaInserted}
 use Rattle.station.specs.declared.answers.PyltarkaChanged.{PyltarkaChanged}
@@ -16,10 +16,6 @@ use Rattle.station.specs.declared.answers.PyltarkaCounted.{PyltarkaCount
 -- the table's settings
 abbrev pub settingsOf : PyltarkaSettings → Settings
 settingsOf s = record { size = s .«entry_size»; multipart = s .multipart; counted = s .counted; keyed = s .keyed }
-
--- where the content of the plain slot h starts in the table: after its size word and its prefix
-unfoldable pub contentStart : Settings → ℕ → ℕ
-contentStart s h = h * s .size + wordBytes + prefixLen s
 
 -- all that an answer can tell: the refusal's number, the head's slot, a count, whether it was the last reference, the content's
 -- length, the compressed mark, the slots visited

@@ -1,13 +1,14 @@
 -- The reads, each way out: refused by the checks that they share, by the output, or answered with what the chain holds.
 use mathlib.Core.Path.{_≡_, refl, sym, ap, ap₂, _∙_}
-use mathlib.Core.Bool.{Bool, true, false}
+use mathlib.Core.Bool.{Bool, true, false, cond}
 use mathlib.Core.List.{List, [], _∷_, _++_}
 use mathlib.Core.Option.{Option, none}
 use Prim.Native.Nat.{ℕ, zero, suc, _+_, _-_, _*_, _≤_, _<_}
 use native.Mathlib.Omega.{arith}
+use lib.Dec.{eqb}
 use lib.ListN.{length, take, drop, length-drop}
 use lib.Seq.{take-all, take-take, drop-drop}
-use borrow.Author.Tests.{lt-ltb, le-ltb}
+use borrow.Author.Tests.{lt-ltb, le-ltb, ne-eqb}
 use Rattle.definition.specs.declared.Settings.{Settings}
 use Rattle.definition.specs.declared.Refusal.{Refusal}
 use Rattle.definition.specs.Numbers.{over, put}
@@ -16,7 +17,7 @@ use Rattle.definition.specs.Settings.{prefixLen, badSettings}
 use Rattle.definition.specs.Slots.{View, view, filled, sizeOf, markOf, countOf}
 use Rattle.definition.specs.Chains.{headFault, sizedBody, bodyOf, contentOf, walk}
 use Rattle.definition.specs.Answers.{Answer, refusal, found}
-use Rattle.definition.specs.Calls.{capacity, tableTests, checkedKeyTest, slotTest, chainTests, outputTest, unless, read, fixedTests, lookFixed, readFixed, findFixed}
+use Rattle.definition.specs.Calls.{capacity, tableTests, checkedKeyTest, slotTest, chainTests, outputTest, unless, read, fixedTests, lookFixed, readFixed, findFixed, contentStart, partStart}
 use Rattle.laws.proofs.Conditions.{cond-no}
 use Rattle.laws.proofs.Tests.{number-some, refuse-yes, refuse-no, passed, first-pass, first-skip, first-one, first-refuses, first-both, first-past, first-refuse-all}
 use Rattle.laws.proofs.Lists.{drop-take, length-part}
@@ -212,6 +213,22 @@ module _ (s : Settings) (t : List ℕ) (h : ℕ) (key : Option (List ℕ)) where
   fixed-part len mark k v e =
       let q = look-found (first (fixedTests s key h t)) _ _ _ _ len mark k v _ e in
       part-found s t h key len (fixed-passes s t h key (q .0)) (q .1) (q .2)
+
+  -- where it starts, refused and not
+  pub empty-start : (r : Refusal) → refusal (numberOf r) ≡ findFixed s key h t → partStart s key h t ≡ 0
+  unfolding findFixed lookFixed partStart unless
+  empty-start r e = go (first (fixedTests s key h t)) e
+    where
+      go : (m : ℕ) → refusal (numberOf r) ≡ unless m [] (found (length (contentOf s (view (s .size) t) (h ∷ []))) (markOf s (view (s .size) t h)) (countOf s (view (s .size) t h)) 1, contentOf s (view (s .size) t) (h ∷ [])) .0
+          → cond (eqb m 0) (contentStart s h) 0 ≡ 0
+      go zero q = absurd (let z : _≡_ {A = ℕ} 0 1 = cc in omega arith)
+      go (suc m) q = cond-no (eqb (suc m) 0) _ _ (ne-eqb (suc m) 0 (λ z. omega arith))
+
+  pub part-start : (len : ℕ) (mark : Bool) (k v : ℕ) → found len mark k v ≡ findFixed s key h t → partStart s key h t ≡ h * s .size + 2 + prefixLen s
+  unfolding findFixed lookFixed partStart contentStart
+  part-start len mark k v e =
+      let q = look-found (first (fixedTests s key h t)) _ _ _ _ len mark k v _ e in
+      ap (λ (m : ℕ). cond (eqb m 0) (h * s .size + 2 + prefixLen s) 0) (q .0)
 
 -- the part handed back, from its start to its end
 pub part-handed : (s : Settings) (t : List ℕ) (h : ℕ) (key : Option (List ℕ)) (len k : ℕ) → PartAt s t h key len → k ≡ prefixLen s

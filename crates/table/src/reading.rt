@@ -16,7 +16,8 @@ ghost use lib.ListN.{length};
 ghost use Rattle.definition.specs.Settings.{badSettings};
 ghost use Rattle.definition.specs.Slots.{view, markOf, countOf};
 ghost use Rattle.definition.specs.Answers.{foundOf};
-ghost use Rattle.definition.specs.Calls.{checkedKey, read, readFixed, findFixed};
+ghost use Rattle.definition.specs.Calls.{checkedKey, read, partStart, readFixed, findFixed};
+ghost use Rattle.table.specs.Places.{liesAt};
 
 // What is told of the record in a slot, its content's length and its visits given: its mark and its count.
 fn record_at(table: &[u8], s: Settings, slot: u64, len: usize, visits: u64) -> Record
@@ -73,7 +74,7 @@ pub fn find_fixed(table: &[u8], s: Settings, slot: u64, checked: bool, key: &[u8
     }
 }
 
-// The fixed read: the content bytes of the slot, a part of the lent table, empty where it is refused.
+// The fixed read: the content bytes of the slot, a part of the lent table from their place on; empty where it is refused.
 pub fn read_fixed<'a, 'b>(
     table: &'a [u8],
     s: Settings,
@@ -81,7 +82,8 @@ pub fn read_fixed<'a, 'b>(
     checked: bool,
     key: &'b [u8],
 ) -> &'a [u8]
-    ensures { λ r. ⌜ now r ≡ readFixed s (checkedKey checked (now (key .entry))) slot (now (table .entry)) ⌝ }
+    ensures { λ r. ⌜ (now r ≡ readFixed s (checkedKey checked (now (key .entry))) slot (now (table .entry)))
+        × liesAt r (table .entry) (partStart s (checkedKey checked (now (key .entry))) slot (now (table .entry))) ⌝ }
 {
     match find_fixed(table, s, slot, checked, key) {
         Found::Refused(_) => &table[0..0],

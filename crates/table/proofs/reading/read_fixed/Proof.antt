@@ -1,8 +1,8 @@
 use native.Mathlib.Omega.{arith}
 use denote.Ref.{now}
-use mathlib.Core.Path.{sym, ap, _∙_}
+use mathlib.Core.Path.{refl, sym, ap, _∙_}
 use borrow.Author.Needs.{needs}
-use Rattle.table.proofs.ReadLaws.{PartAt, fixed-empty, fixed-part, part-handed}
+use Rattle.table.proofs.ReadLaws.{PartAt, fixed-empty, fixed-part, empty-start, part-start, part-handed}
 use Rattle.definition.specs.Answers.{foundOf}
 use Rattle.definition.specs.Calls.{checkedKey}
 use Rattle.table.proofs.reading.read_fixed.Statement.{statement}
@@ -62,11 +62,13 @@ part-result-end-2 c =
 
 returns : tie.Need-returns
 returns c =
-    fixed-empty _ _ _ _ (c .before .enum-told .given .0 .0) (sym (ap foundOf (c .before .enum-told .given .1)) ∙ c .before .before .before .find-fixed .ensures)
+    let q = sym (ap foundOf (c .before .enum-told .given .1)) ∙ c .before .before .before .find-fixed .ensures in
+    (fixed-empty _ _ _ _ (c .before .enum-told .given .0 .0) q, (refl, omega (arith, empty-start _ _ _ _ (c .before .enum-told .given .0 .0) q)))
 
 returns-2 : tie.Need-returns-2
 returns-2 c =
-    part-handed _ _ _ _ _ _ (part (c .before .before .before .before)) (c .before .prefix-len .ensures)
+    let q = sym (ap foundOf (c .before .before .before .before .told .given .1)) ∙ c .before .before .before .before .before .before .find-fixed .ensures in
+    (part-handed _ _ _ _ _ _ (part (c .before .before .before .before)) (c .before .prefix-len .ensures), (refl, omega (arith, part-start _ _ _ _ _ _ _ _ q, c .before .prefix-len .ensures)))
 
 pub read-fixed-spec : {M : Type 1} → statement M
 read-fixed-spec =
