@@ -1,18 +1,75 @@
-// Runs document 01's figures over the public calls and writes a line for each: what was done, then the answers and bytes.
-mod counting;
-mod damaged;
-mod fixed;
-mod limits;
-mod multipart;
-mod printing;
-mod reading;
-mod tables;
+// Makes calls on a table in memory as its input asks, a line each, and writes each line with the answer: so 01's figures and the
+// recorded answers are data. README.md of the crate has the lines that it takes; comments (#) and empty lines are only written.
+mod answers;
+mod calls;
+mod values;
+mod words;
+
+use definition::Settings;
+use libc::STDIN_FILENO;
+ghost use mathlib.Core.Path.{_≡_};
+ghost use lib.ListN.{length};
+
+// The table that the calls are made on: its settings, and how many bytes at the start of the buffer it has.
+pub struct Opened {
+    pub settings: Settings,
+    pub len: usize,
+}
+
+// What is read: a byte, or that the input has ended.
+pub enum Next {
+    Byte(u8),
+    End,
+}
+
+// Room for three slots of the largest entry size and some bytes after them.
+fn buffer() -> [u8; 98304]
+    ensures { λ r. ⌜ 98304 ≡ length r ⌝ }
+{
+    [0; 98304]
+}
 
 fn main() {
-    limits::run();
-    fixed::run();
-    multipart::run();
-    counting::run();
-    reading::run();
-    damaged::run();
+    let mut buffer = buffer();
+    let mut line = [0u8; 256];
+    answer_all(&mut line, &mut buffer);
+}
+
+// A proved loop has to end, and nothing says that the input does: the turns are more than any input has lines.
+fn answer_all(line: &mut [u8], buffer: &mut [u8]) {
+    let mut table = calls::no_table();
+    let mut turns = u64::MAX;
+    while turns > 0 {
+        let n = read_line(line);
+        if n == 0 {
+            return;
+        }
+        table = calls::answer(words::text_of(values::front(line, n)), buffer, table);
+        turns -= 1;
+    }
+}
+
+// Reads up to the end of a line, or until the room is full: a longer line goes on as the next one. How many bytes it read, the
+// line's end among them; 0 where the input ends. It reads a byte a time: the input is short, and nothing is left over.
+fn read_line(line: &mut [u8]) -> usize {
+    let mut n = 0;
+    while n < line.len() {
+        let Next::Byte(byte) = read_byte() else {
+            return n;
+        };
+        line[n] = byte;
+        n += 1;
+        if byte == b'\n' {
+            return n;
+        }
+    }
+    n
+}
+
+fn read_byte() -> Next {
+    let mut byte = [0u8; 1];
+    if libc::read(STDIN_FILENO, &mut byte) < 1 {
+        return Next::End;
+    }
+    Next::Byte(byte[0])
 }

@@ -1,4 +1,5 @@
 // How the program writes: words, numbers, bytes, and each kind of answer.
+use crate::values;
 use definition::Changed;
 use definition::Found;
 use definition::FreeCount;
@@ -7,7 +8,8 @@ use definition::Refusal;
 use definition::Written;
 use libc::STDOUT_FILENO;
 
-// ---- words and bytes
+// As many bytes as are written one by one; of more the sum is.
+const FEW: usize = 64;
 
 pub fn word(text: &[u8]) {
     io::write_all(STDOUT_FILENO, text);
@@ -17,41 +19,39 @@ pub fn number(n: u64) {
     io::print_decimal(STDOUT_FILENO, n);
 }
 
-pub fn end_line() {
-    word(b"\n");
+// A line that is none of the known ones.
+pub fn unknown() {
+    word(b" ?");
 }
 
 // Bytes as two digits each.
-pub fn bytes(b: &[u8]) {
+pub fn digits(b: &[u8]) {
     let mut i = 0;
     while i < b.len() {
-        word(b" ");
-        io::print_hex(STDOUT_FILENO, b[i] as u64, 2);
+        digit(b[i]);
         i += 1;
     }
 }
 
-// So many bytes from a place on; none where the table ends before.
-pub fn bytes_at(b: &[u8], place: usize, many: usize) {
-    if place > b.len() {
-        return;
-    }
-    if many > b.len() - place {
-        return;
-    }
-    let end = place + many;
-    bytes(&b[place..end]);
+fn digit(byte: u8) {
+    word(b" ");
+    io::print_hex(STDOUT_FILENO, byte as u64, 2);
 }
 
-pub fn yes_or_no(yes: bool) {
-    if yes {
-        word(b" yes");
+// All of some bytes: themselves, or their sum.
+pub fn all(b: &[u8]) {
+    if b.len() <= FEW {
+        digits(b);
         return;
     }
-    word(b" no");
+    word(b" sum ");
+    number(values::sum(b));
 }
 
-// ---- answers
+pub fn table(b: &[u8]) {
+    word(b", table");
+    all(b);
+}
 
 pub fn refused(r: Refusal) {
     word(b" refused ");
@@ -86,7 +86,7 @@ pub fn changed(a: Changed) {
     }
 }
 
-pub fn counted_free(a: FreeCount) {
+pub fn free_count(a: FreeCount) {
     match a {
         FreeCount::Members(n) => {
             word(b" free ");
@@ -101,11 +101,12 @@ pub fn found(a: Found) {
         Found::Content(told) => {
             word(b" length ");
             number(told.len);
-            word(b", compressed");
-            yes_or_no(told.mark);
-            word(b", count ");
+            if told.mark {
+                word(b" compressed");
+            }
+            word(b" count ");
             number(told.count as u64);
-            word(b", visits ");
+            word(b" visits ");
             number(told.visits);
         }
         Found::Refused(r) => refused(r),
