@@ -4,6 +4,7 @@ use definition::Changed;
 use definition::Found;
 use definition::FreeCount;
 use definition::Inserted;
+use definition::Record;
 use definition::Refusal;
 use definition::Written;
 use libc::STDOUT_FILENO;
@@ -15,100 +16,89 @@ pub fn word(text: &[u8]) {
     io::write_all(STDOUT_FILENO, text);
 }
 
-pub fn number(n: u64) {
+fn number(name: &[u8], n: u64) {
+    word(name);
     io::print_decimal(STDOUT_FILENO, n);
 }
 
-// A line that is none of the known ones.
+// To a line that is none of those that the program takes, or whose numbers are too large.
 pub fn unknown() {
-    word(b" ?");
+    word(b": ?");
 }
 
-// Bytes as two digits each.
+// ---- bytes
+
+// Two digits each.
 pub fn digits(b: &[u8]) {
     let mut i = 0;
     while i < b.len() {
-        digit(b[i]);
+        byte(b[i]);
         i += 1;
     }
 }
 
-fn digit(byte: u8) {
+fn byte(b: u8) {
     word(b" ");
-    io::print_hex(STDOUT_FILENO, byte as u64, 2);
+    io::print_hex(STDOUT_FILENO, b as u64, 2);
 }
 
 // All of some bytes: themselves, or their sum.
-pub fn all(b: &[u8]) {
+pub fn all(name: &[u8], b: &[u8]) {
+    word(name);
     if b.len() <= FEW {
         digits(b);
         return;
     }
-    word(b" sum ");
-    number(values::sum(b));
+    number(b" sum ", values::sum(b));
 }
 
-pub fn table(b: &[u8]) {
-    word(b", table");
-    all(b);
-}
+// ---- answers
 
-pub fn refused(r: Refusal) {
-    word(b" refused ");
-    number(r.number() as u64);
+fn refused(r: Refusal) {
+    number(b": refused ", r.number() as u64);
 }
 
 pub fn inserted(a: Inserted) {
     match a {
-        Inserted::At(slot) => {
-            word(b" slot ");
-            number(slot);
-        }
+        Inserted::At(slot) => number(b": slot ", slot),
         Inserted::Refused(r) => refused(r),
     }
 }
 
 pub fn written(a: Written) {
     match a {
-        Written::Accepted => word(b" accepted"),
+        Written::Accepted => word(b": accepted"),
         Written::Refused(r) => refused(r),
     }
 }
 
 pub fn changed(a: Changed) {
     match a {
-        Changed::Count(n) => {
-            word(b" count ");
-            number(n as u64);
-        }
-        Changed::LastReference => word(b" LAST REFERENCE"),
+        Changed::Count(n) => number(b": count ", n as u64),
+        Changed::LastReference => word(b": LAST REFERENCE"),
         Changed::Refused(r) => refused(r),
     }
 }
 
 pub fn free_count(a: FreeCount) {
     match a {
-        FreeCount::Members(n) => {
-            word(b" free ");
-            number(n);
-        }
+        FreeCount::Members(n) => number(b": free ", n),
         FreeCount::Refused(r) => refused(r),
     }
 }
 
 pub fn found(a: Found) {
     match a {
-        Found::Content(told) => {
-            word(b" length ");
-            number(told.len);
-            if told.mark {
-                word(b" compressed");
-            }
-            word(b" count ");
-            number(told.count as u64);
-            word(b" visits ");
-            number(told.visits);
-        }
+        Found::Content(r) => record(r),
         Found::Refused(r) => refused(r),
     }
+}
+
+fn record(r: Record) {
+    number(b": length ", r.len);
+    if r.mark {
+        word(b", compressed");
+    }
+    number(b", count ", r.count as u64);
+    number(b", visits ", r.visits);
 }

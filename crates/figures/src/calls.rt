@@ -1,31 +1,21 @@
-// The lines: each is taken apart, its call is made, and what the call answers is written, with the bytes of table and output after it.
-use crate::Opened;
+// The calls: each line's is made, and what it answers is written, with the bytes of the table or of the output after it.
 use crate::answers;
+use crate::lines;
 use crate::values;
 use crate::values::Filling;
-use crate::values::Given;
 use crate::words;
-use crate::words::Choice;
-use crate::words::Number;
-use crate::words::Step;
 use definition::Settings;
+
+// The table that the calls are made on: its settings, and how many bytes at the start of the buffer it has.
+pub struct Opened {
+    pub settings: Settings,
+    pub len: usize,
+}
 
 // What an output holds before a read.
 const UNTOUCHED: u8 = 165;
 
-// A record to be stored: the lengths of its key and content, and its mark.
-pub enum Record {
-    Is(usize, usize, bool),
-    None,
-}
-
-// What a read asks for: the slot, whether a key is checked, the key's length, and how many words said so.
-pub enum Asked {
-    Is(u64, bool, usize, usize),
-    None,
-}
-
-// Before the first line `table`: no bytes, and settings that every call refuses.
+// Before the first table there are no bytes, and every call is refused.
 pub fn no_table() -> Opened {
     let settings = Settings {
         size: 0,
@@ -36,244 +26,114 @@ pub fn no_table() -> Opened {
     Opened { settings, len: 0 }
 }
 
-// Writes a line and its answer; the table that the next line is about.
-pub fn answer(line: &[u8], buffer: &mut [u8], table: Opened) -> Opened {
-    answers::word(line);
-    let next = answer_line(line, buffer, table);
-    answers::word(b"\n");
-    next
-}
-
-fn answer_line(line: &[u8], buffer: &mut [u8], table: Opened) -> Opened {
-    if line.len() == 0 {
-        return table;
-    }
-    if line[0] == b'#' {
-        return table;
-    }
-    answers::word(b":");
-    if words::is_at(line, 0, b"table") {
-        return open(words::after(line, 1), buffer, table);
+// Does what a line of this kind asks; the table that the next line is about.
+pub fn call(kind: usize, line: &[u8], buffer: &mut [u8], table: Opened) -> Opened {
+    if kind == lines::TABLE {
+        return open(line, buffer, table);
     }
     let len = table.len;
+    let s = table.settings;
     if len <= buffer.len() {
-        let s = table.settings;
-        change_table(line, &mut buffer[0..len], s);
+        call_on(kind, line, &mut buffer[0..len], s);
     }
     table
 }
 
-// `table E multipart|fixed counted|uncounted keyed|unkeyed LENGTH`: so many zero bytes.
 fn open(line: &[u8], buffer: &mut [u8], table: Opened) -> Opened {
-    let Number::Is(size) = words::number_at(line, 0) else {
-        answers::unknown();
-        return table;
-    };
-    let Choice::Is(multipart) = words::choice_at(line, 1, b"multipart", b"fixed") else {
-        answers::unknown();
-        return table;
-    };
-    let Choice::Is(counted) = words::choice_at(line, 2, b"counted", b"uncounted") else {
-        answers::unknown();
-        return table;
-    };
-    let Choice::Is(keyed) = words::choice_at(line, 3, b"keyed", b"unkeyed") else {
-        answers::unknown();
-        return table;
-    };
-    let Number::Is(len) = words::number_at(line, 4) else {
-        answers::unknown();
-        return table;
-    };
-    if len > buffer.len() as u64 || words::after(line, 5).len() > 0 {
+    let len = words::number_at(line, 5);
+    if len > buffer.len() as u64 {
         answers::unknown();
         return table;
     }
     let n = len as usize;
     values::fill(&mut buffer[0..n], Filling::Same(0));
     let settings = Settings {
-        size: size as usize,
-        multipart,
-        counted,
-        keyed,
+        size: words::number_at(line, 1) as usize,
+        multipart: words::is_at(line, 2, b"multipart"),
+        counted: words::is_at(line, 3, b"counted"),
+        keyed: words::is_at(line, 4, b"keyed"),
     };
     Opened { settings, len: n }
 }
 
-// The lines that may write.
-fn change_table(line: &[u8], table: &mut [u8], s: Settings) {
-    let rest = words::after(line, 1);
-    if words::is_at(line, 0, b"insert") {
-        insert(rest, table, s);
-    } else if words::is_at(line, 0, b"replace") {
-        replace(rest, table, s);
-    } else if words::is_at(line, 0, b"remove") {
-        remove(rest, table, s);
-    } else if words::is_at(line, 0, b"change") {
-        change(rest, table, s);
-    } else if words::is_at(line, 0, b"set") {
-        set(rest, table);
+fn call_on(kind: usize, line: &[u8], table: &mut [u8], s: Settings) {
+    if kind < lines::TABLE {
+        write(kind, line, table, s);
+        answers::all(b", table", table);
+        return;
+    }
+    match kind {
+        lines::SET => set(line, table),
+        lines::READ => read(line, table, s),
+        lines::READ_FIXED => read_fixed(line, table, s),
+        lines::FREE_COUNT => answers::free_count(table::free_count(table, s)),
+        lines::BYTES => show(line, table),
+        lines::NOTHING => (),
+        _ => answers::unknown(),
+    }
+}
+
+// ---- the writing calls
+
+fn write(kind: usize, line: &[u8], table: &mut [u8], s: Settings) {
+    let slot = words::number_at(line, 1);
+    match kind {
+        lines::INSERT => store(line, 2, table, s, slot),
+        lines::REPLACE => store(line, 3, table, s, slot),
+        lines::REMOVE => answers::written(table::remove(table, s, slot)),
+        _ => answers::changed(table::change_count(
+            table,
+            s,
+            slot,
+            words::step(words::word(line, 2)),
+        )),
+    }
+}
+
+// The record has its key at a place of the line, then its content: it is inserted where that is the first, else it replaces another.
+fn store(line: &[u8], place: usize, table: &mut [u8], s: Settings, slot: u64) {
+    let mut key_room = io::large_buffer();
+    let mut content_room = io::large_buffer();
+    let record = words::rest(line, place, b' ');
+    let k = values::value_at(record, 0, &mut key_room);
+    let n = values::value_at(record, 2, &mut content_room);
+    let key = values::front(&key_room, k);
+    let content = values::front(&content_room, n);
+    let mark = words::is_at(record, 3, b"compressed");
+    if place == 2 {
+        answers::inserted(table::insert(table, s, key, content, mark));
     } else {
-        look(line, table, s);
+        answers::written(table::replace(table, s, slot, key, content, mark));
     }
 }
 
-// The lines that do not.
-fn look(line: &[u8], table: &[u8], s: Settings) {
-    let rest = words::after(line, 1);
-    if words::is_at(line, 0, b"read") {
-        read(rest, table, s);
-    } else if words::is_at(line, 0, b"read_fixed") {
-        read_fixed(rest, table, s);
-    } else if words::is_at(line, 0, b"free_count") && rest.len() == 0 {
-        answers::free_count(table::free_count(table, s));
-    } else if words::is_at(line, 0, b"bytes") {
-        show(rest, table);
-    } else {
-        answers::unknown();
-    }
-}
-
-// KEY CONTENT, and `compressed` or nothing.
-fn take_record(line: &[u8], key: &mut [u8], content: &mut [u8]) -> Record {
-    let Given::Bytes(k, key_words) = values::take_bytes(line, key) else {
-        return Record::None;
-    };
-    let rest = words::after(line, key_words);
-    let Given::Bytes(n, content_words) = values::take_bytes(rest, content) else {
-        return Record::None;
-    };
-    let end = words::after(rest, content_words);
-    if end.len() == 0 {
-        return Record::Is(k, n, false);
-    }
-    if check::same(end, b"compressed") {
-        return Record::Is(k, n, true);
-    }
-    Record::None
-}
-
-fn insert(line: &[u8], table: &mut [u8], s: Settings) {
-    let mut key = [0u8; 64];
-    let mut content = io::large_buffer();
-    let Record::Is(k, n, mark) = take_record(line, &mut key, &mut content) else {
-        answers::unknown();
-        return;
-    };
-    let key = values::front(&key, k);
-    let content = values::front(&content, n);
-    answers::inserted(table::insert(table, s, key, content, mark));
-    answers::table(table);
-}
-
-fn replace(line: &[u8], table: &mut [u8], s: Settings) {
-    let mut key = [0u8; 64];
-    let mut content = io::large_buffer();
-    let Number::Is(slot) = words::number_at(line, 0) else {
-        answers::unknown();
-        return;
-    };
-    let Record::Is(k, n, mark) = take_record(words::after(line, 1), &mut key, &mut content) else {
-        answers::unknown();
-        return;
-    };
-    let key = values::front(&key, k);
-    let content = values::front(&content, n);
-    answers::written(table::replace(table, s, slot, key, content, mark));
-    answers::table(table);
-}
-
-fn remove(line: &[u8], table: &mut [u8], s: Settings) {
-    let Number::Is(slot) = words::number_at(line, 0) else {
-        answers::unknown();
-        return;
-    };
-    answers::written(table::remove(table, s, slot));
-    answers::table(table);
-}
-
-fn change(line: &[u8], table: &mut [u8], s: Settings) {
-    let Number::Is(slot) = words::number_at(line, 0) else {
-        answers::unknown();
-        return;
-    };
-    let Step::By(step) = words::step_at(line, 1) else {
-        answers::unknown();
-        return;
-    };
-    answers::changed(table::change_count(table, s, slot, step));
-    answers::table(table);
-}
-
-// A byte set by hand, as no call would leave it.
 fn set(line: &[u8], table: &mut [u8]) {
-    let Number::Is(place) = words::number_at(line, 0) else {
+    let place = words::number_at(line, 1);
+    let byte = words::number_at(line, 2);
+    if place >= table.len() as u64 {
         answers::unknown();
         return;
-    };
-    let Number::Is(byte) = words::number_at(line, 1) else {
-        answers::unknown();
-        return;
-    };
-    if place >= table.len() as u64 || byte > 255 {
+    }
+    if byte > 255 {
         answers::unknown();
         return;
     }
     table[place as usize] = byte as u8;
-    answers::table(table);
+    answers::all(b": table", table);
 }
 
-// SLOT, `checked` or `unchecked`, KEY.
-fn take_asked(line: &[u8], key: &mut [u8]) -> Asked {
-    let Number::Is(slot) = words::number_at(line, 0) else {
-        return Asked::None;
-    };
-    let Choice::Is(checked) = words::choice_at(line, 1, b"checked", b"unchecked") else {
-        return Asked::None;
-    };
-    let Given::Bytes(k, key_words) = values::take_bytes(words::after(line, 2), key) else {
-        return Asked::None;
-    };
-    Asked::Is(slot, checked, k, key_words)
-}
+// ---- the reads
 
 fn read(line: &[u8], table: &[u8], s: Settings) {
-    let mut key = [0u8; 64];
+    let mut key = io::large_buffer();
     let mut output = io::large_buffer();
-    let Asked::Is(slot, checked, k, key_words) = take_asked(line, &mut key) else {
-        answers::unknown();
-        return;
-    };
-    let room = words::after(words::after(line, 2), key_words);
-    read_into(
-        room,
-        table,
-        s,
-        slot,
-        checked,
-        values::front(&key, k),
-        &mut output,
-    );
+    let n = values::value_at(line, 4, &mut key);
+    read_into(line, table, s, values::front(&key, n), &mut output);
 }
 
-// `output LENGTH`: the copying read, and the whole of its output afterwards.
-fn read_into(
-    line: &[u8],
-    table: &[u8],
-    s: Settings,
-    slot: u64,
-    checked: bool,
-    key: &[u8],
-    output: &mut [u8],
-) {
-    let Number::Is(len) = words::number_at(line, 1) else {
-        answers::unknown();
-        return;
-    };
-    if !words::is_at(line, 0, b"output") {
-        answers::unknown();
-        return;
-    }
+// The copying read, and the whole of its output afterwards.
+fn read_into(line: &[u8], table: &[u8], s: Settings, key: &[u8], output: &mut [u8]) {
+    let len = words::number_at(line, 6);
     if len > output.len() as u64 {
         answers::unknown();
         return;
@@ -281,43 +141,35 @@ fn read_into(
     let n = len as usize;
     let room = &mut output[0..n];
     values::fill(room, Filling::Same(UNTOUCHED));
-    answers::found(table::read(table, s, slot, checked, key, room));
-    answers::word(b", output");
-    answers::all(room);
+    let slot = words::number_at(line, 1);
+    answers::found(table::read(table, s, slot, words::is_at(line, 2, b"checked"), key, room));
+    answers::all(b", output", room);
 }
 
 // What the fixed read's companion tells, and the part of the table that the fixed read hands back.
 fn read_fixed(line: &[u8], table: &[u8], s: Settings) {
-    let mut key = [0u8; 64];
-    let Asked::Is(slot, checked, k, _) = take_asked(line, &mut key) else {
-        answers::unknown();
-        return;
-    };
-    let key = values::front(&key, k);
+    let mut room = io::large_buffer();
+    let n = values::value_at(line, 4, &mut room);
+    let key = values::front(&room, n);
+    let slot = words::number_at(line, 1);
+    let checked = words::is_at(line, 2, b"checked");
     answers::found(table::find_fixed(table, s, slot, checked, key));
-    answers::word(b", part");
-    answers::all(table::read_fixed(table, s, slot, checked, key));
+    answers::all(b", part", table::read_fixed(table, s, slot, checked, key));
 }
 
-// `bytes PLACE MANY`: so many bytes of the table.
 fn show(line: &[u8], table: &[u8]) {
-    let Number::Is(place) = words::number_at(line, 0) else {
-        answers::unknown();
-        return;
-    };
-    let Number::Is(many) = words::number_at(line, 1) else {
-        answers::unknown();
-        return;
-    };
-    if place > table.len() as u64 {
+    let from = words::number_at(line, 1);
+    let many = words::number_at(line, 2);
+    if from > table.len() as u64 {
         answers::unknown();
         return;
     }
-    let from = place as usize;
-    let rest = &table[from..];
-    if many > rest.len() as u64 {
+    let at = from as usize;
+    let part = &table[at..];
+    if many > part.len() as u64 {
         answers::unknown();
         return;
     }
-    answers::digits(values::front(rest, many as usize));
+    answers::word(b":");
+    answers::digits(values::front(part, many as usize));
 }

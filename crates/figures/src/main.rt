@@ -1,20 +1,15 @@
-// Makes calls on a table in memory as its input asks, a line each, and writes each line with the answer: so 01's figures and the
-// recorded answers are data. README.md of the crate has the lines that it takes; comments (#) and empty lines are only written.
+// Makes calls on a table in memory as its input asks, a line each, and writes each line followed by its answer: so 01's figures and the
+// recorded answers are data. src/lines.rt has the lines that it takes. Comments (#) and empty lines are only written.
 mod answers;
 mod calls;
+mod lines;
 mod values;
 mod words;
 
-use definition::Settings;
+use calls::Opened;
 use libc::STDIN_FILENO;
 ghost use mathlib.Core.Path.{_≡_};
 ghost use lib.ListN.{length};
-
-// The table that the calls are made on: its settings, and how many bytes at the start of the buffer it has.
-pub struct Opened {
-    pub settings: Settings,
-    pub len: usize,
-}
 
 // What is read: a byte, or that the input has ended.
 pub enum Next {
@@ -22,7 +17,7 @@ pub enum Next {
     End,
 }
 
-// Room for three slots of the largest entry size and some bytes after them.
+// Room for a table of three slots of the largest entry size, and some bytes after them.
 fn buffer() -> [u8; 98304]
     ensures { λ r. ⌜ 98304 ≡ length r ⌝ }
 {
@@ -44,9 +39,17 @@ fn answer_all(line: &mut [u8], buffer: &mut [u8]) {
         if n == 0 {
             return;
         }
-        table = calls::answer(words::text_of(values::front(line, n)), buffer, table);
+        table = answer(words::part(values::front(line, n), 0, b'\n'), buffer, table);
         turns -= 1;
     }
+}
+
+// Writes a line and its answer; the table that the next line is about.
+fn answer(line: &[u8], buffer: &mut [u8], table: Opened) -> Opened {
+    answers::word(line);
+    let next = calls::call(lines::kind(line), line, buffer, table);
+    answers::word(b"\n");
+    next
 }
 
 // Reads up to the end of a line, or until the room is full: a longer line goes on as the next one. How many bytes it read, the

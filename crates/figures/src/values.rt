@@ -1,95 +1,107 @@
-// Keys and contents, as a line gives them: literal, or made of a number so that long ones need no letters.
+// Keys and contents, each one word of a line: given byte by byte, or made of numbers so that long ones need no letters.
 use crate::words;
-use crate::words::Number;
-ghost use Prim.Native.Nat.{_≤_, _<_};
-ghost use lib.ListN.{length};
 
-// How many bytes were put at the start of the room, and how many words gave them.
+// How many bytes a word stands for, put at the start of a room; or that it stands for none.
 pub enum Given {
-    Bytes(usize, usize),
+    Bytes(usize),
     None,
 }
 
-// The bytes that a line starts with: `none`, `text W`, `hex W`, `key K` or `content N seed S`.
-pub fn take_bytes(line: &[u8], room: &mut [u8]) -> Given {
-    if words::is_at(line, 0, b"none") {
-        return Given::Bytes(0, 1);
-    }
-    if words::is_at(line, 0, b"text") {
-        return text(words::word_at(line, 1), room);
-    }
-    if words::is_at(line, 0, b"hex") {
-        return hex(words::word_at(line, 1), room);
-    }
-    if words::is_at(line, 0, b"key") {
-        return key(words::number_at(line, 1), room);
-    }
-    if words::is_at(line, 0, b"content") && words::is_at(line, 2, b"seed") {
-        return content(words::number_at(line, 1), words::number_at(line, 3), room);
-    }
-    Given::None
-}
-
-fn text(word: &[u8], room: &mut [u8]) -> Given {
-    if word.len() > room.len() {
-        return Given::None;
-    }
-    Given::Bytes(bytes::copy(word, room), 2)
-}
-
-// Two digits a byte.
-fn hex(word: &[u8], room: &mut [u8]) -> Given {
-    let n = word.len() / 2;
-    if n > room.len() || word.len() % 2 == 1 {
-        return Given::None;
-    }
-    let mut i = 0;
-    while i < n {
-        let Number::Is(byte) = words::hex_byte(word[2 * i], word[2 * i + 1]) else {
-            return Given::None;
-        };
-        room[i] = low(byte);
-        i += 1;
-    }
-    Given::Bytes(n, 2)
-}
-
-// Key k, up to 511.
-fn key(k: Number, room: &mut [u8]) -> Given {
-    let Number::Is(k) = k else {
-        return Given::None;
-    };
-    let n = definition::KEY_SIZE;
-    if k > 511 || n > room.len() {
-        return Given::None;
-    }
-    fill(&mut room[0..n], Filling::Key(k));
-    Given::Bytes(n, 2)
-}
-
-// So many bytes of a content with this seed.
-fn content(len: Number, seed: Number, room: &mut [u8]) -> Given {
-    let Number::Is(len) = len else {
-        return Given::None;
-    };
-    let Number::Is(seed) = seed else {
-        return Given::None;
-    };
-    if len > room.len() as u64 {
-        return Given::None;
-    }
-    let n = len as usize;
-    fill(&mut room[0..n], Filling::Content(seed));
-    Given::Bytes(n, 4)
-}
-
-// ---- bytes made of a number
-
+// What a stretch of bytes is filled with.
 pub enum Filling {
     Same(u8),
     Key(u64),
     Content(u64),
 }
+
+// ---- a word's bytes
+
+// `none`, `text:ABC`, `hex:ecff`, `7` (key 7) or `32@1` (32 bytes of the content with seed 1).
+fn put(word: &[u8], room: &mut [u8]) -> Given {
+    match words::which(words::part(word, 0, b':'), b"none text hex", b' ') {
+        0 => Given::Bytes(0),
+        1 => text(words::rest(word, 1, b':'), room),
+        2 => hex(words::rest(word, 1, b':'), room),
+        _ => made(words::part(word, 0, b'@'), words::rest(word, 1, b'@'), room),
+    }
+}
+
+pub fn is_value(word: &[u8]) -> bool {
+    let mut room = io::large_buffer();
+    match put(word, &mut room) {
+        Given::Bytes(_) => true,
+        Given::None => false,
+    }
+}
+
+// The length of the value in a line, whose bytes it puts at the start of the room.
+pub fn value_at(line: &[u8], place: usize, room: &mut [u8]) -> usize {
+    match put(words::word(line, place), room) {
+        Given::Bytes(n) => n,
+        Given::None => 0,
+    }
+}
+
+fn text(letters: &[u8], room: &mut [u8]) -> Given {
+    if letters.len() > room.len() {
+        return Given::None;
+    }
+    Given::Bytes(bytes::copy(letters, room))
+}
+
+// Two digits a byte.
+fn hex(digits: &[u8], room: &mut [u8]) -> Given {
+    let n = digits.len() / 2;
+    if n * 2 != digits.len() || !words::spells(digits, 16) {
+        return Given::None;
+    }
+    if n > room.len() {
+        return Given::None;
+    }
+    let mut i = 0;
+    while i < n {
+        room[i] = hex_byte(digits[2 * i], digits[2 * i + 1]);
+        i += 1;
+    }
+    Given::Bytes(n)
+}
+
+fn hex_byte(high: u8, last: u8) -> u8 {
+    low(words::digit(high) as u64 * 16 + words::digit(last) as u64)
+}
+
+// A number alone is a key's; with a seed it is a content's length.
+fn made(number: &[u8], seed: &[u8], room: &mut [u8]) -> Given {
+    if !words::spells(number, 10) {
+        return Given::None;
+    }
+    if seed.len() == 0 {
+        return filled_front(
+            definition::KEY_SIZE as u64,
+            Filling::Key(words::number(number)),
+            room,
+        );
+    }
+    if !words::spells(seed, 10) {
+        return Given::None;
+    }
+    filled_front(
+        words::number(number),
+        Filling::Content(words::number(seed)),
+        room,
+    )
+}
+
+fn filled_front(len: u64, with: Filling, room: &mut [u8]) -> Given {
+    if len > room.len() as u64 {
+        return Given::None;
+    }
+    let n = len as usize;
+    fill(&mut room[0..n], with);
+    Given::Bytes(n)
+}
+
+// ---- bytes made of a number
 
 pub fn fill(room: &mut [u8], with: Filling) {
     let mut i = 0;
@@ -99,25 +111,21 @@ pub fn fill(room: &mut [u8], with: Filling) {
     }
 }
 
+// Byte i of key k is k + i, and of a content with seed s it is s + 7 i + i / 256, both modulo 256.
 fn filled(with: Filling, i: u64) -> u8 {
     match with {
         Filling::Same(byte) => byte,
         Filling::Key(k) => key_byte(k, i),
-        Filling::Content(seed) => content_byte(seed, i),
+        Filling::Content(seed) => low(seed % 256 + 7 * (i % 256) + i / 256),
     }
 }
 
-// Byte i of key k is k + i, modulo 256; from 256 on the first six are 0, which a table does not keep.
+// From key 256 on the first six bytes are 0: those that a table does not keep.
 fn key_byte(k: u64, i: u64) -> u8 {
     if k > 255 && i < definition::KEY_SKIP as u64 {
         return 0;
     }
     low(k % 256 + i % 256)
-}
-
-// Byte i of a content with seed s is s + 7 i + i / 256, modulo 256.
-fn content_byte(seed: u64, i: u64) -> u8 {
-    low(seed % 256 + 7 * (i % 256) + i / 256)
 }
 
 fn low(n: u64) -> u8 {

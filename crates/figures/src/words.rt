@@ -1,65 +1,67 @@
-// A line as words with one space between them. A word is asked for by its place, from 0 on, and is empty where the line has none.
-ghost use Prim.Native.Nat.{_≤_, _<_};
+// Texts cut at a separator, as a line into words; words compared, and read as numbers. Nothing here asks anything of its caller: a part
+// that is not there is empty, and what is read of a word that spells no number means nothing.
+ghost use Prim.Native.Nat.{_≤_};
 ghost use lib.ListN.{length};
 
-pub enum Number {
-    Is(u64),
-    None,
-}
+// More parts than any text here is asked for.
+pub const MOST: usize = 16;
 
-pub enum Step {
-    By(i32),
-    None,
-}
+// ---- parts of a text
 
-pub enum Choice {
-    Is(bool),
-    None,
-}
-
-// The line without its end.
-pub fn text_of<'a>(line: &'a [u8]) -> &'a [u8] {
-    let end = bytes::scan::find(line, 0, line.len(), b'\n');
-    &line[0..end]
-}
-
-// Where the words from a place on start: after so many spaces, or at the line's end.
-fn start(line: &[u8], place: usize) -> usize
-    ensures { λ r. ⌜ r ≤ length (now (line .entry)) ⌝ }
+// Where the parts from a place on start, from 0 on: after so many separators, or at the text's end.
+fn start(text: &[u8], place: usize, separator: u8) -> usize
+    ensures { λ r. ⌜ r ≤ length (now (text .entry)) ⌝ }
 {
     let mut i = 0;
-    let mut spaces = place;
-    while i < line.len() {
-        if spaces == 0 {
+    let mut left = place;
+    while i < text.len() {
+        if left == 0 {
             return i;
         }
-        if line[i] == b' ' {
-            spaces -= 1;
+        if text[i] == separator {
+            left -= 1;
         }
         i += 1;
     }
     i
 }
 
-// The words from a place on.
-pub fn after<'a>(line: &'a [u8], place: usize) -> &'a [u8] {
-    let from = start(line, place);
-    &line[from..]
+// The parts from a place on.
+pub fn rest<'a>(text: &'a [u8], place: usize, separator: u8) -> &'a [u8] {
+    let from = start(text, place, separator);
+    &text[from..]
 }
 
-pub fn word_at<'a>(line: &'a [u8], place: usize) -> &'a [u8] {
-    let from = start(line, place);
-    let to = bytes::scan::find(line, from, line.len(), b' ');
-    &line[from..to]
+pub fn part<'a>(text: &'a [u8], place: usize, separator: u8) -> &'a [u8] {
+    let from = start(text, place, separator);
+    let to = bytes::scan::find(text, from, text.len(), separator);
+    &text[from..to]
 }
 
-// Whether the word at a place is this one.
+pub fn word<'a>(line: &'a [u8], place: usize) -> &'a [u8] {
+    part(line, place, b' ')
+}
+
 pub fn is_at(line: &[u8], place: usize, name: &[u8]) -> bool {
-    check::same(word_at(line, place), name)
+    check::same(word(line, place), name)
 }
+
+// The place of a word among some names, or MOST.
+pub fn which(word: &[u8], names: &[u8], separator: u8) -> usize {
+    let mut i = 0;
+    while i < MOST {
+        if check::same(part(names, i, separator), word) {
+            return i;
+        }
+        i += 1;
+    }
+    i
+}
+
+// ---- numbers
 
 // The value of a hexadecimal digit; 16 for any other byte.
-fn digit(byte: u8) -> u8 {
+pub fn digit(byte: u8) -> u8 {
     match byte {
         b'0'..=b'9' => byte - b'0',
         b'a'..=b'f' => byte - b'a' + 10,
@@ -67,92 +69,79 @@ fn digit(byte: u8) -> u8 {
     }
 }
 
-// The byte that two hexadecimal digits spell.
-pub fn hex_byte(high: u8, low: u8) -> Number {
-    let h = digit(high);
-    let l = digit(low);
-    if h > 15 || l > 15 {
-        return Number::None;
+// Whether a word spells a number in this base, up to 16.
+pub fn spells(word: &[u8], base: u8) -> bool {
+    let mut i = 0;
+    while i < word.len() {
+        if digit(word[i]) >= base {
+            return false;
+        }
+        i += 1;
     }
-    Number::Is(h as u64 * 16 + l as u64)
+    i > 0
 }
 
-// A number with one more decimal digit, where 64 bits hold it.
-fn with_digit(n: u64, byte: u8) -> Number {
-    let d = digit(byte) as u64;
-    if d > 9 {
-        return Number::None;
-    }
-    if n > (u64::MAX - d) / 10 {
-        return Number::None;
-    }
-    Number::Is(n * 10 + d)
-}
-
-// A number in decimal digits.
-fn decimal(word: &[u8]) -> Number {
-    if word.len() == 0 {
-        return Number::None;
-    }
+// What a decimal word spells; one of more than 64 bits counts as their largest.
+pub fn number(word: &[u8]) -> u64 {
     let mut n = 0;
     let mut i = 0;
     while i < word.len() {
-        let Number::Is(more) = with_digit(n, word[i]) else {
-            return Number::None;
-        };
-        n = more;
+        n = with_digit(n, digit(word[i]));
         i += 1;
     }
-    Number::Is(n)
+    n
 }
 
-pub fn number_at(line: &[u8], place: usize) -> Number {
-    decimal(word_at(line, place))
+pub fn number_at(line: &[u8], place: usize) -> u64 {
+    number(word(line, place))
 }
 
-// A signed step of 32 bits.
-pub fn step_at(line: &[u8], place: usize) -> Step {
-    let digits = word_at(line, place);
-    if digits.len() == 0 {
-        return Step::None;
+fn with_digit(n: u64, digit: u8) -> u64 {
+    if n > u64::MAX / 10 - 1 {
+        return u64::MAX;
     }
-    if digits[0] == b'-' {
-        return match decimal(&digits[1..]) {
-            Number::Is(n) => negative(n),
-            Number::None => Step::None,
-        };
-    }
-    match decimal(digits) {
-        Number::Is(n) => positive(n),
-        Number::None => Step::None,
-    }
+    n * 10 + (digit % 16) as u64
 }
 
-fn positive(n: u64) -> Step {
+// ---- steps
+
+fn is_negative(word: &[u8]) -> bool {
+    if word.len() == 0 {
+        return false;
+    }
+    word[0] == b'-'
+}
+
+// Whether a word spells a signed number of 32 bits.
+pub fn spells_step(word: &[u8]) -> bool {
+    if is_negative(word) {
+        let digits = rest(word, 1, b'-');
+        return spells(digits, 10) && number(digits) <= 2147483648;
+    }
+    spells(word, 10) && number(word) <= 2147483647
+}
+
+pub fn step(word: &[u8]) -> i32 {
+    if is_negative(word) {
+        return negative(number(rest(word, 1, b'-')));
+    }
+    positive(number(word))
+}
+
+fn positive(n: u64) -> i32 {
     if n > 2147483647 {
-        return Step::None;
+        return 0;
     }
-    Step::By(n as i32)
+    n as i32
 }
 
 // The complement of n - 1 is -n.
-fn negative(n: u64) -> Step {
+fn negative(n: u64) -> i32 {
     if n == 0 {
-        return Step::None;
+        return 0;
     }
     if n > 2147483648 {
-        return Step::None;
+        return 0;
     }
-    Step::By(!((n - 1) as i32))
-}
-
-// One of two words: whether it is the first.
-pub fn choice_at(line: &[u8], place: usize, yes: &[u8], no: &[u8]) -> Choice {
-    if is_at(line, place, yes) {
-        return Choice::Is(true);
-    }
-    if is_at(line, place, no) {
-        return Choice::Is(false);
-    }
-    Choice::None
+    !((n - 1) as i32)
 }

@@ -4,9 +4,6 @@ use lib.ListN.{length}
 use borrow.Author.Needs.{needs}
 use Rattle.figures.proofs.values.fill.Statement.{statement}
 use Rattle.figures.proofs.values.fill.Tie as tie
-use Rattle.figures.proofs.values.fill.Reads as reads
-use Rattle.figures.proofs.values.fill.Lts as lts
-use Rattle.figures.proofs.values.filled.Reads as filled-reads
 
 abbrev Inv-loop : tie.InvT-loop
 Inv-loop room₀ with i₀ room i = (i ≤ length room₀) × (length room ≡ length room₀)
@@ -14,35 +11,27 @@ Inv-loop room₀ with i₀ room i = (i ≤ length room₀) × (length room ≡ l
 abbrev μ-loop : tie.MeasureT-loop
 μ-loop room₀ with i₀ room i = length room₀ - i
 
--- src/values.rt:96:5
 loop-holds : tie.Need-loop-holds Inv-loop μ-loop
 loop-holds c = search needs
 
--- src/values.rt:97:19
 filled-requires : tie.Need-filled-requires Inv-loop μ-loop
 filled-requires c κs = search needs
 
--- src/values.rt:97:9
 slice-write-room : tie.Need-slice-write-room Inv-loop μ-loop
 slice-write-room c = search needs
 
--- src/values.rt:98:9
 add-i : tie.Need-add-i Inv-loop μ-loop
 add-i c = search needs
 
--- src/values.rt:96:5
 loop-less : tie.Need-loop-less Inv-loop μ-loop
 loop-less c = search needs
 
--- src/values.rt:96:5
 loop-again : tie.Need-loop-again Inv-loop μ-loop
 loop-again c = search needs
 
--- src/values.rt:94:1
 same-length : tie.Need-same-length Inv-loop μ-loop
 same-length c = search needs
 
--- src/values.rt:94:1
 returns : tie.Need-returns Inv-loop μ-loop
 returns c = search needs
 

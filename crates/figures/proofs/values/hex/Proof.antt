@@ -4,90 +4,61 @@ use lib.ListN.{length}
 use borrow.Author.Needs.{needs}
 use Rattle.figures.proofs.values.hex.Statement.{statement}
 use Rattle.figures.proofs.values.hex.Tie as tie
-use Rattle.figures.proofs.values.hex.Reads as reads
-use Rattle.figures.proofs.values.hex.Lts as lts
-use Rattle.figures.proofs.values.low.Reads as low-reads
-use Rattle.figures.proofs.words.hex_byte.Reads as hex-byte-reads
 
 abbrev Inv-loop : tie.InvT-loop
-Inv-loop word room₀ n i₀ room i = (i ≤ n) × (length room ≡ length room₀)
+Inv-loop digits room₀ n i₀ room i = (i ≤ n) × (length room ≡ length room₀)
 
 abbrev μ-loop : tie.MeasureT-loop
-μ-loop word room₀ n i₀ room i = n - i
+μ-loop digits room₀ n i₀ room i = n - i
 
--- src/values.rt:44:9
+mul-if1 : tie.Need-mul-if1 Inv-loop μ-loop
+mul-if1 c = search needs
+
+spells-requires : tie.Need-spells-requires Inv-loop μ-loop
+spells-requires c κs = search needs
+
 returns : tie.Need-returns Inv-loop μ-loop
 returns c = search needs
 
--- src/values.rt:47:5
-loop-holds : tie.Need-loop-holds Inv-loop μ-loop
-loop-holds c = search needs
-
--- src/values.rt:48:53
-mul-hex-byte : tie.Need-mul-hex-byte Inv-loop μ-loop
-mul-hex-byte c = search needs
-
--- src/values.rt:48:48
-shared-slice-read-hex-byte : tie.Need-shared-slice-read-hex-byte Inv-loop μ-loop
-shared-slice-read-hex-byte c = search needs
-
--- src/values.rt:48:66
-mul-hex-byte-2 : tie.Need-mul-hex-byte-2 Inv-loop μ-loop
-mul-hex-byte-2 c = search needs
-
--- src/values.rt:48:66
-add-hex-byte : tie.Need-add-hex-byte Inv-loop μ-loop
-add-hex-byte c = search needs
-
--- src/values.rt:48:61
-shared-slice-read-hex-byte-2 : tie.Need-shared-slice-read-hex-byte-2 Inv-loop μ-loop
-shared-slice-read-hex-byte-2 c = search needs
-
--- src/values.rt:48:32
-hex-byte-requires : tie.Need-hex-byte-requires Inv-loop μ-loop
-hex-byte-requires c κs = search needs
-
--- src/values.rt:48:24
-enum-known-byte : tie.Need-enum-known-byte Inv-loop μ-loop
-enum-known-byte c = search needs
-
--- src/values.rt:49:13
-enum-told : tie.Need-enum-told Inv-loop μ-loop
-enum-told c = search needs
-
--- src/values.rt:49:13
-same-length : tie.Need-same-length Inv-loop μ-loop
-same-length c = search needs
-
--- src/values.rt:49:13
 returns-2 : tie.Need-returns-2 Inv-loop μ-loop
 returns-2 c = search needs
 
--- src/values.rt:51:19
-low-requires : tie.Need-low-requires Inv-loop μ-loop
-low-requires c κs = search needs
+loop-holds : tie.Need-loop-holds Inv-loop μ-loop
+loop-holds c = search needs
 
--- src/values.rt:51:9
+mul-hex-byte : tie.Need-mul-hex-byte Inv-loop μ-loop
+mul-hex-byte c = search needs
+
+shared-slice-read-hex-byte : tie.Need-shared-slice-read-hex-byte Inv-loop μ-loop
+shared-slice-read-hex-byte c = search needs
+
+mul-hex-byte-2 : tie.Need-mul-hex-byte-2 Inv-loop μ-loop
+mul-hex-byte-2 c = search needs
+
+add-hex-byte : tie.Need-add-hex-byte Inv-loop μ-loop
+add-hex-byte c = search needs
+
+shared-slice-read-hex-byte-2 : tie.Need-shared-slice-read-hex-byte-2 Inv-loop μ-loop
+shared-slice-read-hex-byte-2 c = search needs
+
+hex-byte-requires : tie.Need-hex-byte-requires Inv-loop μ-loop
+hex-byte-requires c κs = search needs
+
 slice-write-room : tie.Need-slice-write-room Inv-loop μ-loop
 slice-write-room c = search needs
 
--- src/values.rt:52:9
 add-i : tie.Need-add-i Inv-loop μ-loop
 add-i c = search needs
 
--- src/values.rt:47:5
 loop-less : tie.Need-loop-less Inv-loop μ-loop
 loop-less c = search needs
 
--- src/values.rt:47:5
 loop-again : tie.Need-loop-again Inv-loop μ-loop
 loop-again c = search needs
 
--- src/values.rt:41:1
-same-length-2 : tie.Need-same-length-2 Inv-loop μ-loop
-same-length-2 c = search needs
+same-length : tie.Need-same-length Inv-loop μ-loop
+same-length c = search needs
 
--- src/values.rt:41:1
 returns-3 : tie.Need-returns-3 Inv-loop μ-loop
 returns-3 c = search needs
 
@@ -97,7 +68,10 @@ hex-spec =
     (tie.spec
     Inv-loop
     μ-loop
+    mul-if1
+    spells-requires
     returns
+    returns-2
     loop-holds
     mul-hex-byte
     shared-slice-read-hex-byte
@@ -105,14 +79,9 @@ hex-spec =
     add-hex-byte
     shared-slice-read-hex-byte-2
     hex-byte-requires
-    enum-known-byte
-    enum-told
-    same-length
-    returns-2
-    low-requires
     slice-write-room
     add-i
     loop-less
     loop-again
-    same-length-2
+    same-length
     returns-3)

@@ -3,9 +3,6 @@ use lib.ListN.{length}
 use borrow.Author.Needs.{needs}
 use Rattle.figures.proofs.values.sum.Statement.{statement}
 use Rattle.figures.proofs.values.sum.Tie as tie
-use Rattle.figures.proofs.values.sum.Reads as reads
-use Rattle.figures.proofs.values.sum.Lts as lts
-use Rattle.figures.proofs.values.sum_with.Reads as sum-with-reads
 
 abbrev Inv-loop : tie.InvT-loop
 Inv-loop b sum₀ i₀ sum i = i ≤ length b
@@ -13,31 +10,24 @@ Inv-loop b sum₀ i₀ sum i = i ≤ length b
 abbrev μ-loop : tie.MeasureT-loop
 μ-loop b sum₀ i₀ sum i = length b - i
 
--- src/values.rt:141:5
 loop-holds : tie.Need-loop-holds Inv-loop μ-loop
 loop-holds c = search needs
 
--- src/values.rt:142:29
 shared-slice-read-sum-with : tie.Need-shared-slice-read-sum-with Inv-loop μ-loop
 shared-slice-read-sum-with c = search needs
 
--- src/values.rt:142:9
 sum-with-requires : tie.Need-sum-with-requires Inv-loop μ-loop
 sum-with-requires c κs = search needs
 
--- src/values.rt:143:9
 add-i : tie.Need-add-i Inv-loop μ-loop
 add-i c = search needs
 
--- src/values.rt:141:5
 loop-less : tie.Need-loop-less Inv-loop μ-loop
 loop-less c = search needs
 
--- src/values.rt:141:5
 loop-again : tie.Need-loop-again Inv-loop μ-loop
 loop-again c = search needs
 
--- src/values.rt:138:1
 returns : tie.Need-returns Inv-loop μ-loop
 returns c = search needs
 

@@ -3,44 +3,34 @@ use lib.ListN.{length}
 use borrow.Author.Needs.{needs}
 use Rattle.figures.proofs.words.start.Statement.{statement}
 use Rattle.figures.proofs.words.start.Tie as tie
-use Rattle.figures.proofs.words.start.Reads as reads
-use Rattle.figures.proofs.words.start.Lts as lts
 
 abbrev Inv-loop : tie.InvT-loop
-Inv-loop line place i₀ spaces₀ i spaces = i ≤ length line
+Inv-loop text place separator i₀ left₀ i left = i ≤ length text
 
 abbrev μ-loop : tie.MeasureT-loop
-μ-loop line place i₀ spaces₀ i spaces = length line - i
+μ-loop text place separator i₀ left₀ i left = length text - i
 
--- src/words.rt:32:5
 loop-holds : tie.Need-loop-holds Inv-loop μ-loop
 loop-holds c = search needs
 
--- src/words.rt:34:13
 returns : tie.Need-returns Inv-loop μ-loop
 returns c = search needs
 
--- src/words.rt:36:12
 shared-slice-read-if2 : tie.Need-shared-slice-read-if2 Inv-loop μ-loop
 shared-slice-read-if2 c = search needs
 
--- src/words.rt:37:13
-sub-spaces : tie.Need-sub-spaces Inv-loop μ-loop
-sub-spaces c = search needs
+sub-left : tie.Need-sub-left Inv-loop μ-loop
+sub-left c = search needs
 
--- src/words.rt:39:9
 add-i : tie.Need-add-i Inv-loop μ-loop
 add-i c = search needs
 
--- src/words.rt:32:5
 loop-less : tie.Need-loop-less Inv-loop μ-loop
 loop-less c = search needs
 
--- src/words.rt:32:5
 loop-again : tie.Need-loop-again Inv-loop μ-loop
 loop-again c = search needs
 
--- src/words.rt:27:1
 returns-2 : tie.Need-returns-2 Inv-loop μ-loop
 returns-2 c = search needs
 
@@ -53,7 +43,7 @@ start-spec =
     loop-holds
     returns
     shared-slice-read-if2
-    sub-spaces
+    sub-left
     add-i
     loop-less
     loop-again
