@@ -46,7 +46,7 @@ fn open(line: &[u8], buffer: &mut [u8], table: Opened) -> Opened {
         return table;
     }
     let n = len as usize;
-    values::fill(&mut buffer[0..n], Filling::Same(0));
+    values::fill(&mut buffer[0..n], Filling::Same(0), line);
     let settings = Settings {
         size: words::number_at(line, 1) as usize,
         multipart: words::is_at(line, 2, b"multipart"),
@@ -128,19 +128,23 @@ fn read(line: &[u8], table: &[u8], s: Settings) {
     let mut key = io::large_buffer();
     let mut output = io::large_buffer();
     let n = values::value_at(line, 4, &mut key);
-    read_into(line, table, s, values::front(&key, n), &mut output);
+    read_part(line, table, s, values::front(&key, n), &mut output);
 }
 
-// The copying read, and the whole of its output afterwards.
-fn read_into(line: &[u8], table: &[u8], s: Settings, key: &[u8], output: &mut [u8]) {
+// As much of the output as the line asks for is lent to the read.
+fn read_part(line: &[u8], table: &[u8], s: Settings, key: &[u8], output: &mut [u8]) {
     let len = words::number_at(line, 6);
     if len > output.len() as u64 {
         answers::unknown();
         return;
     }
     let n = len as usize;
-    let room = &mut output[0..n];
-    values::fill(room, Filling::Same(UNTOUCHED));
+    read_into(line, table, s, key, &mut output[0..n]);
+}
+
+// The copying read, and the whole of its output afterwards.
+fn read_into(line: &[u8], table: &[u8], s: Settings, key: &[u8], room: &mut [u8]) {
+    values::fill(room, Filling::Same(UNTOUCHED), key);
     let slot = words::number_at(line, 1);
     answers::found(table::read(table, s, slot, words::is_at(line, 2, b"checked"), key, room));
     answers::all(b", output", room);

@@ -7,9 +7,11 @@ pub enum Given {
     None,
 }
 
-// What a stretch of bytes is filled with.
+// What a stretch of bytes is filled with: one byte; the letters given with it; the bytes that those spell; key K; the content with seed S.
 pub enum Filling {
     Same(u8),
+    Text,
+    Hex,
     Key(u64),
     Content(u64),
 }
@@ -18,10 +20,11 @@ pub enum Filling {
 
 // `none`, `text:ABC`, `hex:ecff`, `7` (key 7) or `32@1` (32 bytes of the content with seed 1).
 fn put(word: &[u8], room: &mut [u8]) -> Given {
+    let letters = words::rest(word, 1, b':');
     match words::which(words::part(word, 0, b':'), b"none text hex", b' ') {
         0 => Given::Bytes(0),
-        1 => text(words::rest(word, 1, b':'), room),
-        2 => hex(words::rest(word, 1, b':'), room),
+        1 => put_filled(letters.len() as u64, Filling::Text, letters, room),
+        2 => hex(letters, room),
         _ => made(words::part(word, 0, b'@'), words::rest(word, 1, b'@'), room),
     }
 }
@@ -42,32 +45,12 @@ pub fn value_at(line: &[u8], place: usize, room: &mut [u8]) -> usize {
     }
 }
 
-fn text(letters: &[u8], room: &mut [u8]) -> Given {
-    if letters.len() > room.len() {
-        return Given::None;
-    }
-    Given::Bytes(bytes::copy(letters, room))
-}
-
 // Two digits a byte.
 fn hex(digits: &[u8], room: &mut [u8]) -> Given {
-    let n = digits.len() / 2;
-    if n * 2 != digits.len() || !words::spells(digits, 16) {
+    if digits.len() % 2 == 1 || !words::spells(digits, 16) {
         return Given::None;
     }
-    if n > room.len() {
-        return Given::None;
-    }
-    let mut i = 0;
-    while i < n {
-        room[i] = hex_byte(digits[2 * i], digits[2 * i + 1]);
-        i += 1;
-    }
-    Given::Bytes(n)
-}
-
-fn hex_byte(high: u8, last: u8) -> u8 {
-    low(words::digit(high) as u64 * 16 + words::digit(last) as u64)
+    put_filled((digits.len() / 2) as u64, Filling::Hex, digits, room)
 }
 
 // A number alone is a key's; with a seed it is a content's length.
@@ -75,48 +58,43 @@ fn made(number: &[u8], seed: &[u8], room: &mut [u8]) -> Given {
     if !words::spells(number, 10) {
         return Given::None;
     }
+    let n = words::number(number);
     if seed.len() == 0 {
-        return filled_front(
-            definition::KEY_SIZE as u64,
-            Filling::Key(words::number(number)),
-            room,
-        );
+        return put_filled(definition::KEY_SIZE as u64, Filling::Key(n), seed, room);
     }
     if !words::spells(seed, 10) {
         return Given::None;
     }
-    filled_front(
-        words::number(number),
-        Filling::Content(words::number(seed)),
-        room,
-    )
+    put_filled(n, Filling::Content(words::number(seed)), seed, room)
 }
 
-fn filled_front(len: u64, with: Filling, room: &mut [u8]) -> Given {
+fn put_filled(len: u64, with: Filling, letters: &[u8], room: &mut [u8]) -> Given {
     if len > room.len() as u64 {
         return Given::None;
     }
     let n = len as usize;
-    fill(&mut room[0..n], with);
+    fill(&mut room[0..n], with, letters);
     Given::Bytes(n)
 }
 
-// ---- bytes made of a number
+// ---- bytes made
 
-pub fn fill(room: &mut [u8], with: Filling) {
+pub fn fill(room: &mut [u8], with: Filling, letters: &[u8]) {
     let mut i = 0;
     while i < room.len() {
-        room[i] = filled(with, i as u64);
+        room[i] = filled(with, letters, i);
         i += 1;
     }
 }
 
 // Byte i of key k is k + i, and of a content with seed s it is s + 7 i + i / 256, both modulo 256.
-fn filled(with: Filling, i: u64) -> u8 {
+fn filled(with: Filling, letters: &[u8], i: usize) -> u8 {
     match with {
         Filling::Same(byte) => byte,
-        Filling::Key(k) => key_byte(k, i),
-        Filling::Content(seed) => low(seed % 256 + 7 * (i % 256) + i / 256),
+        Filling::Text => letter(letters, i),
+        Filling::Hex => hex_byte(letters, i),
+        Filling::Key(k) => key_byte(k, i as u64),
+        Filling::Content(seed) => low(seed % 256 + 7 * (i as u64 % 256) + i as u64 / 256),
     }
 }
 
@@ -128,8 +106,21 @@ fn key_byte(k: u64, i: u64) -> u8 {
     low(k % 256 + i % 256)
 }
 
+// The digits lie two by two; no line has more than 256.
+fn hex_byte(digits: &[u8], i: usize) -> u8 {
+    let at = i % 256 * 2;
+    low(words::digit(letter(digits, at)) as u64 * 16 + words::digit(letter(digits, at + 1)) as u64)
+}
+
 fn low(n: u64) -> u8 {
     (n % 256) as u8
+}
+
+fn letter(letters: &[u8], i: usize) -> u8 {
+    if i < letters.len() {
+        return letters[i];
+    }
+    0
 }
 
 // ---- bytes taken together

@@ -6,10 +6,10 @@ use Rattle.figures.proofs.values.fill.Statement.{statement}
 use Rattle.figures.proofs.values.fill.Tie as tie
 
 abbrev Inv-loop : tie.InvT-loop
-Inv-loop room₀ with i₀ room i = (i ≤ length room₀) × (length room ≡ length room₀)
+Inv-loop room₀ with letters i₀ room i = (i ≤ length room₀) × (length room ≡ length room₀)
 
 abbrev μ-loop : tie.MeasureT-loop
-μ-loop room₀ with i₀ room i = length room₀ - i
+μ-loop room₀ with letters i₀ room i = length room₀ - i
 
 loop-holds : tie.Need-loop-holds Inv-loop μ-loop
 loop-holds c = search needs
