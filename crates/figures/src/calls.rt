@@ -68,6 +68,7 @@ fn call_on(kind: usize, line: &[u8], table: &mut [u8], s: Settings) {
         lines::READ_FIXED => read_fixed(line, table, s),
         lines::FREE_COUNT => answers::free_count(table::free_count(table, s)),
         lines::BYTES => show(line, table),
+        lines::VALUE => show_value(line),
         lines::NOTHING => (),
         _ => answers::unknown(),
     }
@@ -176,4 +177,10 @@ fn show(line: &[u8], table: &[u8]) {
     }
     answers::word(b":");
     answers::digits(values::front(part, many as usize));
+}
+
+fn show_value(line: &[u8]) {
+    let mut room = io::large_buffer();
+    let n = values::value_at(line, 1, &mut room);
+    answers::all(b":", values::front(&room, n));
 }

@@ -23,8 +23,10 @@ pub const FREE_COUNT: usize = 8;
 
 pub const BYTES: usize = 9;
 
+pub const VALUE: usize = 10;
+
 // A comment, or an empty line.
-pub const NOTHING: usize = 10;
+pub const NOTHING: usize = 11;
 
 // Which line this is; MOST for none.
 pub fn kind(line: &[u8]) -> usize {
@@ -42,7 +44,8 @@ pub fn kind(line: &[u8]) -> usize {
 }
 
 // N is a number, S a signed step, V a value, C the word `compressed` or no word; of words with `|` between them it is one. `table`
-// starts a new table of so many zero bytes, `set` sets one byte as no call would leave it, `bytes` shows so many from a place on.
+// starts a new table of so many zero bytes, `set` sets one byte as no call would leave it, `bytes` shows so many from a place on, `value` those of
+// a value.
 fn fits_form(line: &[u8], kind: usize) -> bool {
     let forms = b"insert key V content V C
 replace N key V content V C
@@ -53,7 +56,8 @@ set N N
 read N unchecked|checked key V output N
 read_fixed N unchecked|checked key V
 free_count
-bytes N N";
+bytes N N
+value V";
     fits(line, words::part(forms, kind, b'\n'))
 }
 
