@@ -47,13 +47,19 @@ fn open(line: &[u8], buffer: &mut [u8], table: Opened) -> Opened {
     }
     let n = len as usize;
     values::fill(&mut buffer[0..n], Filling::Same(0), line);
-    let settings = Settings {
+    Opened {
+        settings: settings(line),
+        len: n,
+    }
+}
+
+fn settings(line: &[u8]) -> Settings {
+    Settings {
         size: words::number_at(line, 1) as usize,
         multipart: words::is_at(line, 2, b"multipart"),
         counted: words::is_at(line, 3, b"counted"),
         keyed: words::is_at(line, 4, b"keyed"),
-    };
-    Opened { settings, len: n }
+    }
 }
 
 fn call_on(kind: usize, line: &[u8], table: &mut [u8], s: Settings) {
@@ -91,17 +97,35 @@ fn write(kind: usize, line: &[u8], table: &mut [u8], s: Settings) {
     }
 }
 
-// The record has its key at a place of the line, then its content: it is inserted where that is the first, else it replaces another.
+// The record in a line from a place on: its key, then its content.
 fn store(line: &[u8], place: usize, table: &mut [u8], s: Settings, slot: u64) {
-    let mut key_room = io::large_buffer();
-    let mut content_room = io::large_buffer();
+    let mut key = io::large_buffer();
+    let mut content = io::large_buffer();
     let record = words::rest(line, place, b' ');
-    let k = values::value_at(record, 0, &mut key_room);
-    let n = values::value_at(record, 2, &mut content_room);
-    let key = values::front(&key_room, k);
-    let content = values::front(&content_room, n);
+    let k = values::value_at(record, 0, &mut key);
+    let n = values::value_at(record, 2, &mut content);
     let mark = words::is_at(record, 3, b"compressed");
-    if place == 2 {
+    store_record(
+        place == 2,
+        table,
+        s,
+        slot,
+        values::front(&key, k),
+        values::front(&content, n),
+        mark,
+    );
+}
+
+fn store_record(
+    is_new: bool,
+    table: &mut [u8],
+    s: Settings,
+    slot: u64,
+    key: &[u8],
+    content: &[u8],
+    mark: bool,
+) {
+    if is_new {
         answers::inserted(table::insert(table, s, key, content, mark));
     } else {
         answers::written(table::replace(table, s, slot, key, content, mark));
@@ -111,16 +135,14 @@ fn store(line: &[u8], place: usize, table: &mut [u8], s: Settings, slot: u64) {
 fn set(line: &[u8], table: &mut [u8]) {
     let place = words::number_at(line, 1);
     let byte = words::number_at(line, 2);
-    if place >= table.len() as u64 {
-        answers::unknown();
-        return;
+    if place < table.len() as u64 {
+        if byte < 256 {
+            table[place as usize] = byte as u8;
+            answers::all(b": table", table);
+            return;
+        }
     }
-    if byte > 255 {
-        answers::unknown();
-        return;
-    }
-    table[place as usize] = byte as u8;
-    answers::all(b": table", table);
+    answers::unknown();
 }
 
 // ---- the reads
@@ -162,21 +184,12 @@ fn read_fixed(line: &[u8], table: &[u8], s: Settings) {
     answers::all(b", part", table::read_fixed(table, s, slot, checked, key));
 }
 
+// As many of these bytes as the table has.
 fn show(line: &[u8], table: &[u8]) {
-    let from = words::number_at(line, 1);
-    let many = words::number_at(line, 2);
-    if from > table.len() as u64 {
-        answers::unknown();
-        return;
-    }
-    let at = from as usize;
-    let part = &table[at..];
-    if many > part.len() as u64 {
-        answers::unknown();
-        return;
-    }
+    let from = words::number_at(line, 1) as usize;
+    let many = words::number_at(line, 2) as usize;
     answers::word(b":");
-    answers::digits(values::front(part, many as usize));
+    answers::digits(values::front(values::back(table, from), many));
 }
 
 fn show_value(line: &[u8]) {

@@ -1,11 +1,8 @@
 // Keys and contents, each one word of a line: given byte by byte, or made of numbers so that long ones need no letters.
 use crate::words;
 
-// How many bytes a word stands for, put at the start of a room; or that it stands for none.
-pub enum Given {
-    Bytes(usize),
-    None,
-}
+// In place of a length: the word stands for no bytes that the room holds.
+const NONE: usize = usize::MAX;
 
 // What a stretch of bytes is filled with: one byte; the letters given with it; the bytes that those spell; key K; the content with seed S.
 pub enum Filling {
@@ -18,63 +15,57 @@ pub enum Filling {
 
 // ---- a word's bytes
 
-// `none`, `text:ABC`, `hex:ecff`, `7` (key 7) or `32@1` (32 bytes of the content with seed 1).
-fn put(word: &[u8], room: &mut [u8]) -> Given {
+// `none`, `text:ABC`, `hex:ecff`, `7` (key 7) or `32@1` (32 bytes of the content with seed 1), put at the start of the room: the length.
+fn put(word: &[u8], room: &mut [u8]) -> usize {
     let letters = words::rest(word, 1, b':');
     match words::which(words::part(word, 0, b':'), b"none text hex", b' ') {
-        0 => Given::Bytes(0),
+        0 => 0,
         1 => put_filled(letters.len() as u64, Filling::Text, letters, room),
-        2 => hex(letters, room),
-        _ => made(words::part(word, 0, b'@'), words::rest(word, 1, b'@'), room),
+        2 => put_hex(letters, room),
+        _ => put_made(words::part(word, 0, b'@'), words::rest(word, 1, b'@'), room),
     }
 }
 
 pub fn is_value(word: &[u8]) -> bool {
     let mut room = io::large_buffer();
-    match put(word, &mut room) {
-        Given::Bytes(_) => true,
-        Given::None => false,
-    }
+    put(word, &mut room) != NONE
 }
 
 // The length of the value in a line, whose bytes it puts at the start of the room.
 pub fn value_at(line: &[u8], place: usize, room: &mut [u8]) -> usize {
-    match put(words::word(line, place), room) {
-        Given::Bytes(n) => n,
-        Given::None => 0,
-    }
+    put(words::word(line, place), room)
 }
 
 // Two digits a byte.
-fn hex(digits: &[u8], room: &mut [u8]) -> Given {
+fn put_hex(digits: &[u8], room: &mut [u8]) -> usize {
     if digits.len() % 2 == 1 || !words::spells(digits, 16) {
-        return Given::None;
+        return NONE;
     }
     put_filled((digits.len() / 2) as u64, Filling::Hex, digits, room)
 }
 
 // A number alone is a key's; with a seed it is a content's length.
-fn made(number: &[u8], seed: &[u8], room: &mut [u8]) -> Given {
+fn put_made(number: &[u8], seed: &[u8], room: &mut [u8]) -> usize {
     if !words::spells(number, 10) {
-        return Given::None;
+        return NONE;
     }
     let n = words::number(number);
     if seed.len() == 0 {
         return put_filled(definition::KEY_SIZE as u64, Filling::Key(n), seed, room);
     }
     if !words::spells(seed, 10) {
-        return Given::None;
+        return NONE;
     }
     put_filled(n, Filling::Content(words::number(seed)), seed, room)
 }
 
-fn put_filled(len: u64, with: Filling, letters: &[u8], room: &mut [u8]) -> Given {
+fn put_filled(len: u64, with: Filling, letters: &[u8], room: &mut [u8]) -> usize {
     if len > room.len() as u64 {
-        return Given::None;
+        return NONE;
     }
     let n = len as usize;
     fill(&mut room[0..n], with, letters);
-    Given::Bytes(n)
+    n
 }
 
 // ---- bytes made
@@ -131,6 +122,14 @@ pub fn front<'a>(b: &'a [u8], n: usize) -> &'a [u8] {
         return b;
     }
     &b[0..n]
+}
+
+// What stands after the first n bytes.
+pub fn back<'a>(b: &'a [u8], n: usize) -> &'a [u8] {
+    if n > b.len() {
+        return &b[0..0];
+    }
+    &b[n..]
 }
 
 // What stands for bytes that are too many to write: each byte b in turn makes the sum 257 times itself plus b + 1, modulo a prime.
