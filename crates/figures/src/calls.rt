@@ -15,6 +15,11 @@ pub struct Opened {
 // What an output holds before a read.
 const UNTOUCHED: u8 = 165;
 
+// The place of `table` among the forms of lines: before it stand the calls that write. And the place after them, for comments.
+const TABLE: usize = 4;
+
+const NOTHING: usize = 11;
+
 // Before the first table there are no bytes, and every call is refused.
 pub fn no_table() -> Opened {
     let settings = Settings {
@@ -26,9 +31,29 @@ pub fn no_table() -> Opened {
     Opened { settings, len: 0 }
 }
 
+// The lines, by their places. `table` starts a new table of so many zero bytes, `set` sets one byte as no call would leave it, `bytes`
+// shows so many from a place on, `value` those that a key or content stands for. src/lines.rt says what the capital letters are.
+pub fn kind(line: &[u8]) -> usize {
+    let forms = b"insert key V content V C
+replace N key V content V C
+remove N
+change N S
+table N fixed|multipart uncounted|counted unkeyed|keyed N
+set N N
+read N unchecked|checked key V output N
+read_fixed N unchecked|checked key V
+free_count
+bytes N N
+value V";
+    if words::is_at(line, 0, b"#") {
+        return NOTHING;
+    }
+    lines::which_form(line, forms)
+}
+
 // Does what a line of this kind asks; the table that the next line is about.
 pub fn call(kind: usize, line: &[u8], buffer: &mut [u8], table: Opened) -> Opened {
-    if kind == lines::TABLE {
+    if kind == TABLE {
         return open(line, buffer, table);
     }
     let len = table.len;
@@ -38,6 +63,36 @@ pub fn call(kind: usize, line: &[u8], buffer: &mut [u8], table: Opened) -> Opene
     }
     table
 }
+
+fn call_on(kind: usize, line: &[u8], table: &mut [u8], s: Settings) {
+    if kind < TABLE {
+        write(kind, line, table, s);
+        answers::all(b", table", table);
+        return;
+    }
+    match kind {
+        5 => set(line, table),
+        6 => read(line, table, s),
+        7 => read_fixed(line, table, s),
+        8 => answers::free_count(table::free_count(table, s)),
+        9 => show(line, table),
+        10 => show_value(line),
+        NOTHING => (),
+        _ => answers::unknown(),
+    }
+}
+
+fn write(kind: usize, line: &[u8], table: &mut [u8], s: Settings) {
+    let slot = words::number_at(line, 1);
+    match kind {
+        0 => store(line, 2, table, s, slot),
+        1 => store(line, 3, table, s, slot),
+        2 => answers::written(table::remove(table, s, slot)),
+        _ => answers::changed(table::change_count(table, s, slot, words::step_at(line, 2))),
+    }
+}
+
+// ---- tables
 
 fn open(line: &[u8], buffer: &mut [u8], table: Opened) -> Opened {
     let len = words::number_at(line, 5);
@@ -62,40 +117,7 @@ fn settings(line: &[u8]) -> Settings {
     }
 }
 
-fn call_on(kind: usize, line: &[u8], table: &mut [u8], s: Settings) {
-    if kind < lines::TABLE {
-        write(kind, line, table, s);
-        answers::all(b", table", table);
-        return;
-    }
-    match kind {
-        lines::SET => set(line, table),
-        lines::READ => read(line, table, s),
-        lines::READ_FIXED => read_fixed(line, table, s),
-        lines::FREE_COUNT => answers::free_count(table::free_count(table, s)),
-        lines::BYTES => show(line, table),
-        lines::VALUE => show_value(line),
-        lines::NOTHING => (),
-        _ => answers::unknown(),
-    }
-}
-
-// ---- the writing calls
-
-fn write(kind: usize, line: &[u8], table: &mut [u8], s: Settings) {
-    let slot = words::number_at(line, 1);
-    match kind {
-        lines::INSERT => store(line, 2, table, s, slot),
-        lines::REPLACE => store(line, 3, table, s, slot),
-        lines::REMOVE => answers::written(table::remove(table, s, slot)),
-        _ => answers::changed(table::change_count(
-            table,
-            s,
-            slot,
-            words::step(words::word(line, 2)),
-        )),
-    }
-}
+// ---- the calls that write
 
 // The record in a line from a place on: its key, then its content.
 fn store(line: &[u8], place: usize, table: &mut [u8], s: Settings, slot: u64) {

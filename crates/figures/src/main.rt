@@ -1,5 +1,5 @@
 // Makes calls on a table in memory as its input asks, a line each, and writes each line followed by its answer: so 01's figures and the
-// recorded answers are data. src/lines.rt has the lines that it takes. Comments (#) and empty lines are only written.
+// recorded answers are data. src/calls.rt has the lines that it takes. Comments (#) and empty lines are only written.
 mod answers;
 mod calls;
 mod lines;
@@ -41,7 +41,7 @@ fn answer_all(text: &[u8], buffer: &mut [u8]) {
 // Writes a line and its answer; the table that the next line is about.
 fn answer(line: &[u8], buffer: &mut [u8], table: Opened) -> Opened {
     answers::word(line);
-    let next = calls::call(lines::kind(line), line, buffer, table);
+    let next = calls::call(calls::kind(line), line, buffer, table);
     answers::word(b"\n");
     next
 }

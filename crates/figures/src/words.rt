@@ -105,43 +105,32 @@ fn with_digit(n: u64, digit: u8) -> u64 {
 
 // ---- steps
 
-fn is_negative(word: &[u8]) -> bool {
-    if word.len() == 0 {
-        return false;
+// What follows the sign of a negative number; empty where a word has no sign before it.
+fn negated<'a>(word: &'a [u8]) -> &'a [u8] {
+    if part(word, 0, b'-').len() > 0 {
+        return &word[0..0];
     }
-    word[0] == b'-'
+    rest(word, 1, b'-')
 }
 
 // Whether a word spells a signed number of 32 bits.
 pub fn spells_step(word: &[u8]) -> bool {
-    if is_negative(word) {
-        let digits = rest(word, 1, b'-');
+    let digits = negated(word);
+    if digits.len() > 0 {
         return spells(digits, 10) && number(digits) <= 2147483648;
     }
     spells(word, 10) && number(word) <= 2147483647
 }
 
-pub fn step(word: &[u8]) -> i32 {
-    if is_negative(word) {
-        return negative(number(rest(word, 1, b'-')));
-    }
-    positive(number(word))
-}
-
-fn positive(n: u64) -> i32 {
-    if n > 2147483647 {
-        return 0;
-    }
-    n as i32
-}
-
 // The complement of n - 1 is -n.
-fn negative(n: u64) -> i32 {
-    if n == 0 {
-        return 0;
+pub fn step_at(line: &[u8], place: usize) -> i32 {
+    let n = number(negated(word(line, place)));
+    if n > 0 {
+        return !low31(n - 1);
     }
-    if n > 2147483648 {
-        return 0;
-    }
-    !((n - 1) as i32)
+    low31(number_at(line, place))
+}
+
+fn low31(n: u64) -> i32 {
+    (n % 2147483648) as i32
 }
