@@ -6,30 +6,13 @@ use crate::values::Filling;
 use crate::words;
 use definition::Settings;
 
-// The table that the calls are made on: its settings, and how many bytes at the start of the buffer it has.
-pub struct Opened {
-    pub settings: Settings,
-    pub len: usize,
-}
-
 // What an output holds before a read.
 const UNTOUCHED: u8 = 165;
 
 // The place of `table` among the forms of lines: before it stand the calls that write. And the place after them, for comments.
-const TABLE: usize = 4;
+pub const TABLE: usize = 4;
 
 const NOTHING: usize = 11;
-
-// Before the first table there are no bytes, and every call is refused.
-pub fn no_table() -> Opened {
-    let settings = Settings {
-        size: 0,
-        multipart: false,
-        counted: false,
-        keyed: false,
-    };
-    Opened { settings, len: 0 }
-}
 
 // The lines, by their places. `table` starts a new table of so many zero bytes, `set` sets one byte as no call would leave it, `bytes`
 // shows so many from a place on, `value` those that a key or content stands for. src/lines.rt says what the capital letters are.
@@ -38,7 +21,7 @@ pub fn kind(line: &[u8]) -> usize {
 replace N key V content V C
 remove N
 change N S
-table N fixed|multipart uncounted|counted unkeyed|keyed N
+table N fixed|multipart uncounted|counted unkeyed|keyed L
 set N N
 read N unchecked|checked key V output N
 read_fixed N unchecked|checked key V
@@ -51,26 +34,25 @@ value V";
     lines::which_form(line, forms)
 }
 
-// Does what a line of this kind asks; the table that the next line is about.
-pub fn call(kind: usize, line: &[u8], buffer: &mut [u8], table: Opened) -> Opened {
-    if kind == TABLE {
-        return open(line, buffer, table);
+// The settings in a line `table`.
+pub fn settings(line: &[u8]) -> Settings {
+    Settings {
+        size: words::number_at(line, 1) as usize,
+        multipart: words::is_at(line, 2, b"multipart"),
+        counted: words::is_at(line, 3, b"counted"),
+        keyed: words::is_at(line, 4, b"keyed"),
     }
-    let len = table.len;
-    let s = table.settings;
-    if len <= buffer.len() {
-        call_on(kind, line, &mut buffer[0..len], s);
-    }
-    table
 }
 
-fn call_on(kind: usize, line: &[u8], table: &mut [u8], s: Settings) {
+// Does what a line of this kind asks.
+pub fn call(kind: usize, line: &[u8], table: &mut [u8], s: Settings) {
     if kind < TABLE {
         write(kind, line, table, s);
         answers::all(b", table", table);
         return;
     }
     match kind {
+        TABLE => values::fill(table, Filling::Same(0), line),
         5 => set(line, table),
         6 => read(line, table, s),
         7 => read_fixed(line, table, s),
@@ -82,6 +64,8 @@ fn call_on(kind: usize, line: &[u8], table: &mut [u8], s: Settings) {
     }
 }
 
+// ---- the calls that write
+
 fn write(kind: usize, line: &[u8], table: &mut [u8], s: Settings) {
     let slot = words::number_at(line, 1);
     match kind {
@@ -92,62 +76,17 @@ fn write(kind: usize, line: &[u8], table: &mut [u8], s: Settings) {
     }
 }
 
-// ---- tables
-
-fn open(line: &[u8], buffer: &mut [u8], table: Opened) -> Opened {
-    let len = words::number_at(line, 5);
-    if len > buffer.len() as u64 {
-        answers::unknown();
-        return table;
-    }
-    let n = len as usize;
-    values::fill(&mut buffer[0..n], Filling::Same(0), line);
-    Opened {
-        settings: settings(line),
-        len: n,
-    }
-}
-
-fn settings(line: &[u8]) -> Settings {
-    Settings {
-        size: words::number_at(line, 1) as usize,
-        multipart: words::is_at(line, 2, b"multipart"),
-        counted: words::is_at(line, 3, b"counted"),
-        keyed: words::is_at(line, 4, b"keyed"),
-    }
-}
-
-// ---- the calls that write
-
-// The record in a line from a place on: its key, then its content.
+// The record in a line from a place on, its key and then its content: a new one where that is the first place for it.
 fn store(line: &[u8], place: usize, table: &mut [u8], s: Settings, slot: u64) {
-    let mut key = io::large_buffer();
-    let mut content = io::large_buffer();
+    let mut key_room = io::large_buffer();
+    let mut content_room = io::large_buffer();
     let record = words::rest(line, place, b' ');
-    let k = values::value_at(record, 0, &mut key);
-    let n = values::value_at(record, 2, &mut content);
+    let k = values::value_at(record, 0, &mut key_room);
+    let n = values::value_at(record, 2, &mut content_room);
     let mark = words::is_at(record, 3, b"compressed");
-    store_record(
-        place == 2,
-        table,
-        s,
-        slot,
-        values::front(&key, k),
-        values::front(&content, n),
-        mark,
-    );
-}
-
-fn store_record(
-    is_new: bool,
-    table: &mut [u8],
-    s: Settings,
-    slot: u64,
-    key: &[u8],
-    content: &[u8],
-    mark: bool,
-) {
-    if is_new {
+    let key = values::front(&key_room, k);
+    let content = values::front(&content_room, n);
+    if place == 2 {
         answers::inserted(table::insert(table, s, key, content, mark));
     } else {
         answers::written(table::replace(table, s, slot, key, content, mark));

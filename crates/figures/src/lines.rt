@@ -26,14 +26,15 @@ fn fits(line: &[u8], form: &[u8]) -> bool {
     true
 }
 
-// Whether a word, or that there is none, is what a word of a form says: N a number, S a signed step, V a value, C `compressed`
-// or nothing, and else one of the words that it has `|` between.
+// Whether a word, or that there is none, is what a word of a form says: N a number, S a signed step, V a value, L the length of
+// a table that the buffer holds, C `compressed` or nothing, and else one of the words that it has `|` between.
 fn is(word: &[u8], said: &[u8]) -> bool {
-    match words::which(said, b"N S V C", b' ') {
+    match words::which(said, b"N S V L C", b' ') {
         0 => words::spells(word, 10),
         1 => words::spells_step(word),
         2 => values::is_value(word),
-        3 => words::which(word, b"compressed", b'|') < 2,
+        3 => words::spells_up_to(word, 98304),
+        4 => words::which(word, b"compressed", b'|') < 2,
         _ => is_one_of(word, said),
     }
 }

@@ -6,7 +6,6 @@ mod lines;
 mod values;
 mod words;
 
-use calls::Opened;
 use libc::STDIN_FILENO;
 ghost use mathlib.Core.Path.{_≡_};
 ghost use lib.ListN.{length};
@@ -25,23 +24,38 @@ fn main() {
     answer_all(values::front(&input, n), &mut buffer);
 }
 
-// A text has no more lines than bytes.
+// Each line in turn; a text has no more of them than bytes. The calls are on the table of the last line `table`; before the first there is
+// none, and every call is refused.
 fn answer_all(text: &[u8], buffer: &mut [u8]) {
-    let mut table = calls::no_table();
+    let mut table = text.len();
     let mut i = 0;
     while i < text.len() {
         if words::rest(text, i, b'\n').len() == 0 {
             return;
         }
-        table = answer(words::part(text, i, b'\n'), buffer, table);
+        let kind = calls::kind(words::part(text, i, b'\n'));
+        if kind == calls::TABLE {
+            table = i;
+        }
+        answer(
+            kind,
+            words::part(text, i, b'\n'),
+            words::part(text, table, b'\n'),
+            buffer,
+        );
         i += 1;
     }
 }
 
-// Writes a line and its answer; the table that the next line is about.
-fn answer(line: &[u8], buffer: &mut [u8], table: Opened) -> Opened {
+// Writes a line and its answer.
+fn answer(kind: usize, line: &[u8], table: &[u8], buffer: &mut [u8]) {
     answers::word(line);
-    let next = calls::call(calls::kind(line), line, buffer, table);
+    let len = words::number_at(table, 5);
+    if len > buffer.len() as u64 {
+        answers::word(b": ?\n");
+        return;
+    }
+    let n = len as usize;
+    calls::call(kind, line, &mut buffer[0..n], calls::settings(table));
     answers::word(b"\n");
-    next
 }

@@ -96,6 +96,10 @@ pub fn number_at(line: &[u8], place: usize) -> u64 {
     number(word(line, place))
 }
 
+pub fn spells_up_to(word: &[u8], most: u64) -> bool {
+    spells(word, 10) && number(word) <= most
+}
+
 fn with_digit(n: u64, digit: u8) -> u64 {
     if n > u64::MAX / 10 - 1 {
         return u64::MAX;
@@ -117,9 +121,9 @@ fn negated<'a>(word: &'a [u8]) -> &'a [u8] {
 pub fn spells_step(word: &[u8]) -> bool {
     let digits = negated(word);
     if digits.len() > 0 {
-        return spells(digits, 10) && number(digits) <= 2147483648;
+        return spells_up_to(digits, 2147483648);
     }
-    spells(word, 10) && number(word) <= 2147483647
+    spells_up_to(word, 2147483647)
 }
 
 // The complement of n - 1 is -n.

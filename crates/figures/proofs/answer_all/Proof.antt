@@ -11,9 +11,6 @@ Inv-loop text buffer₀ table₀ i₀ buffer table i = length buffer ≡ length 
 abbrev μ-loop : tie.MeasureT-loop
 μ-loop text buffer₀ table₀ i₀ buffer table i = length text - i
 
-no-table-requires : tie.Need-no-table-requires Inv-loop μ-loop
-no-table-requires c κs = search needs
-
 loop-holds : tie.Need-loop-holds Inv-loop μ-loop
 loop-holds c = search needs
 
@@ -28,6 +25,15 @@ returns c = search needs
 
 part-requires : tie.Need-part-requires Inv-loop μ-loop
 part-requires c κs = search needs
+
+kind-requires : tie.Need-kind-requires Inv-loop μ-loop
+kind-requires c κs = search needs
+
+part-requires-2 : tie.Need-part-requires-2 Inv-loop μ-loop
+part-requires-2 c κs = search needs
+
+part-requires-3 : tie.Need-part-requires-3 Inv-loop μ-loop
+part-requires-3 c κs = search needs
 
 answer-requires : tie.Need-answer-requires Inv-loop μ-loop
 answer-requires c κs = search needs
@@ -53,12 +59,14 @@ answer-all-spec =
     (tie.spec
     Inv-loop
     μ-loop
-    no-table-requires
     loop-holds
     rest-requires
     same-length
     returns
     part-requires
+    kind-requires
+    part-requires-2
+    part-requires-3
     answer-requires
     add-i
     loop-less
