@@ -1,5 +1,4 @@
 // How the program writes: words, numbers, bytes, and each kind of answer.
-use crate::values;
 use definition::Changed;
 use definition::Found;
 use definition::FreeCount;
@@ -8,6 +7,7 @@ use definition::Record;
 use definition::Refusal;
 use definition::Written;
 use libc::STDOUT_FILENO;
+use lines::values;
 
 // As many bytes as are written one by one; of more the sum is.
 const FEW: usize = 64;

@@ -1,10 +1,10 @@
 // The calls: each line's is made, and what it answers is written, with the bytes of the table or of the output after it.
 use crate::answers;
-use crate::lines;
-use crate::values;
-use crate::values::Filling;
-use crate::words;
 use definition::Settings;
+use lines::forms;
+use lines::values;
+use lines::values::Filling;
+use lines::words;
 
 // What an output holds before a read.
 const UNTOUCHED: u8 = 165;
@@ -15,7 +15,7 @@ pub const TABLE: usize = 4;
 const NOTHING: usize = 11;
 
 // The lines, by their places. `table` starts a new table of so many zero bytes, `set` sets one byte as no call would leave it, `bytes`
-// shows so many from a place on, `value` those that a key or content stands for. src/lines.rt says what the capital letters are.
+// shows so many from a place on, `value` those that a key or content stands for. crates/lines/src/forms.rt says what the capital letters are.
 pub fn kind(line: &[u8]) -> usize {
     let forms = b"insert key V content V C
 replace N key V content V C
@@ -31,7 +31,7 @@ value V";
     if words::is_at(line, 0, b"#") {
         return NOTHING;
     }
-    lines::which_form(line, forms)
+    forms::which_form(line, forms)
 }
 
 // The settings in a line `table`.

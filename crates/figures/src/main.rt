@@ -2,11 +2,10 @@
 // recorded answers are data. src/calls.rt has the lines that it takes. Comments (#) and empty lines are only written.
 mod answers;
 mod calls;
-mod lines;
-mod values;
-mod words;
 
 use libc::STDIN_FILENO;
+use lines::values;
+use lines::words;
 ghost use mathlib.Core.Path.{_≡_};
 ghost use lib.ListN.{length};
 

@@ -1,28 +1,26 @@
 use Prim.Native.Nat.{_≤_, _-_}
+use lib.ListN.{length}
 use borrow.Author.Needs.{needs}
-use Rattle.figures.proofs.lines.fits.Statement.{statement}
-use Rattle.figures.proofs.lines.fits.Tie as tie
+use Rattle.lines.proofs.words.start.Statement.{statement}
+use Rattle.lines.proofs.words.start.Tie as tie
 
 abbrev Inv-loop : tie.InvT-loop
-Inv-loop line form i₀ i = i ≤ 16
+Inv-loop text place separator i₀ left₀ i left = i ≤ length text
 
 abbrev μ-loop : tie.MeasureT-loop
-μ-loop line form i₀ i = 16 - i
+μ-loop text place separator i₀ left₀ i left = length text - i
 
 loop-holds : tie.Need-loop-holds Inv-loop μ-loop
 loop-holds c = search needs
 
-word-requires : tie.Need-word-requires Inv-loop μ-loop
-word-requires c κs = search needs
-
-word-requires-2 : tie.Need-word-requires-2 Inv-loop μ-loop
-word-requires-2 c κs = search needs
-
-is-requires : tie.Need-is-requires Inv-loop μ-loop
-is-requires c κs = search needs
-
 returns : tie.Need-returns Inv-loop μ-loop
 returns c = search needs
+
+shared-slice-read-if2 : tie.Need-shared-slice-read-if2 Inv-loop μ-loop
+shared-slice-read-if2 c = search needs
+
+sub-left : tie.Need-sub-left Inv-loop μ-loop
+sub-left c = search needs
 
 add-i : tie.Need-add-i Inv-loop μ-loop
 add-i c = search needs
@@ -36,17 +34,16 @@ loop-again c = search needs
 returns-2 : tie.Need-returns-2 Inv-loop μ-loop
 returns-2 c = search needs
 
-pub fits-spec : {M : Type 1} → statement M
-fits-spec =
+pub start-spec : {M : Type 1} → statement M
+start-spec =
     tie.close
     (tie.spec
     Inv-loop
     μ-loop
     loop-holds
-    word-requires
-    word-requires-2
-    is-requires
     returns
+    shared-slice-read-if2
+    sub-left
     add-i
     loop-less
     loop-again

@@ -1,26 +1,25 @@
 use Prim.Native.Nat.{_≤_, _-_}
-use lib.ListN.{length}
 use borrow.Author.Needs.{needs}
-use Rattle.figures.proofs.words.start.Statement.{statement}
-use Rattle.figures.proofs.words.start.Tie as tie
+use Rattle.lines.proofs.forms.which_form.Statement.{statement}
+use Rattle.lines.proofs.forms.which_form.Tie as tie
 
 abbrev Inv-loop : tie.InvT-loop
-Inv-loop text place separator i₀ left₀ i left = i ≤ length text
+Inv-loop line forms i₀ i = i ≤ 16
 
 abbrev μ-loop : tie.MeasureT-loop
-μ-loop text place separator i₀ left₀ i left = length text - i
+μ-loop line forms i₀ i = 16 - i
 
 loop-holds : tie.Need-loop-holds Inv-loop μ-loop
 loop-holds c = search needs
 
+part-requires : tie.Need-part-requires Inv-loop μ-loop
+part-requires c κs = search needs
+
+fits-requires : tie.Need-fits-requires Inv-loop μ-loop
+fits-requires c κs = search needs
+
 returns : tie.Need-returns Inv-loop μ-loop
 returns c = search needs
-
-shared-slice-read-if2 : tie.Need-shared-slice-read-if2 Inv-loop μ-loop
-shared-slice-read-if2 c = search needs
-
-sub-left : tie.Need-sub-left Inv-loop μ-loop
-sub-left c = search needs
 
 add-i : tie.Need-add-i Inv-loop μ-loop
 add-i c = search needs
@@ -34,16 +33,16 @@ loop-again c = search needs
 returns-2 : tie.Need-returns-2 Inv-loop μ-loop
 returns-2 c = search needs
 
-pub start-spec : {M : Type 1} → statement M
-start-spec =
+pub which-form-spec : {M : Type 1} → statement M
+which-form-spec =
     tie.close
     (tie.spec
     Inv-loop
     μ-loop
     loop-holds
+    part-requires
+    fits-requires
     returns
-    shared-slice-read-if2
-    sub-left
     add-i
     loop-less
     loop-again

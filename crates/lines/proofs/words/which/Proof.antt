@@ -1,7 +1,7 @@
 use Prim.Native.Nat.{_≤_, _-_}
 use borrow.Author.Needs.{needs}
-use Rattle.figures.proofs.words.which.Statement.{statement}
-use Rattle.figures.proofs.words.which.Tie as tie
+use Rattle.lines.proofs.words.which.Statement.{statement}
+use Rattle.lines.proofs.words.which.Tie as tie
 
 abbrev Inv-loop : tie.InvT-loop
 Inv-loop word names separator i₀ i = i ≤ 16

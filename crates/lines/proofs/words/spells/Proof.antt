@@ -1,14 +1,14 @@
 use Prim.Native.Nat.{_≤_, _-_}
 use lib.ListN.{length}
 use borrow.Author.Needs.{needs}
-use Rattle.figures.proofs.words.number.Statement.{statement}
-use Rattle.figures.proofs.words.number.Tie as tie
+use Rattle.lines.proofs.words.spells.Statement.{statement}
+use Rattle.lines.proofs.words.spells.Tie as tie
 
 abbrev Inv-loop : tie.InvT-loop
-Inv-loop word n₀ i₀ n i = i ≤ length word
+Inv-loop word base i₀ i = i ≤ length word
 
 abbrev μ-loop : tie.MeasureT-loop
-μ-loop word n₀ i₀ n i = length word - i
+μ-loop word base i₀ i = length word - i
 
 loop-holds : tie.Need-loop-holds Inv-loop μ-loop
 loop-holds c = search needs
@@ -19,8 +19,8 @@ shared-slice-read-digit c = search needs
 digit-requires : tie.Need-digit-requires Inv-loop μ-loop
 digit-requires c κs = search needs
 
-with-digit-requires : tie.Need-with-digit-requires Inv-loop μ-loop
-with-digit-requires c κs = search needs
+returns : tie.Need-returns Inv-loop μ-loop
+returns c = search needs
 
 add-i : tie.Need-add-i Inv-loop μ-loop
 add-i c = search needs
@@ -31,11 +31,11 @@ loop-less c = search needs
 loop-again : tie.Need-loop-again Inv-loop μ-loop
 loop-again c = search needs
 
-returns : tie.Need-returns Inv-loop μ-loop
-returns c = search needs
+returns-2 : tie.Need-returns-2 Inv-loop μ-loop
+returns-2 c = search needs
 
-pub number-spec : {M : Type 1} → statement M
-number-spec =
+pub spells-spec : {M : Type 1} → statement M
+spells-spec =
     tie.close
     (tie.spec
     Inv-loop
@@ -43,8 +43,8 @@ number-spec =
     loop-holds
     shared-slice-read-digit
     digit-requires
-    with-digit-requires
+    returns
     add-i
     loop-less
     loop-again
-    returns)
+    returns-2)

@@ -1,22 +1,25 @@
 use Prim.Native.Nat.{_≤_, _-_}
 use borrow.Author.Needs.{needs}
-use Rattle.figures.proofs.lines.which_form.Statement.{statement}
-use Rattle.figures.proofs.lines.which_form.Tie as tie
+use Rattle.lines.proofs.forms.fits.Statement.{statement}
+use Rattle.lines.proofs.forms.fits.Tie as tie
 
 abbrev Inv-loop : tie.InvT-loop
-Inv-loop line forms i₀ i = i ≤ 16
+Inv-loop line form i₀ i = i ≤ 16
 
 abbrev μ-loop : tie.MeasureT-loop
-μ-loop line forms i₀ i = 16 - i
+μ-loop line form i₀ i = 16 - i
 
 loop-holds : tie.Need-loop-holds Inv-loop μ-loop
 loop-holds c = search needs
 
-part-requires : tie.Need-part-requires Inv-loop μ-loop
-part-requires c κs = search needs
+word-requires : tie.Need-word-requires Inv-loop μ-loop
+word-requires c κs = search needs
 
-fits-requires : tie.Need-fits-requires Inv-loop μ-loop
-fits-requires c κs = search needs
+word-requires-2 : tie.Need-word-requires-2 Inv-loop μ-loop
+word-requires-2 c κs = search needs
+
+is-requires : tie.Need-is-requires Inv-loop μ-loop
+is-requires c κs = search needs
 
 returns : tie.Need-returns Inv-loop μ-loop
 returns c = search needs
@@ -33,15 +36,16 @@ loop-again c = search needs
 returns-2 : tie.Need-returns-2 Inv-loop μ-loop
 returns-2 c = search needs
 
-pub which-form-spec : {M : Type 1} → statement M
-which-form-spec =
+pub fits-spec : {M : Type 1} → statement M
+fits-spec =
     tie.close
     (tie.spec
     Inv-loop
     μ-loop
     loop-holds
-    part-requires
-    fits-requires
+    word-requires
+    word-requires-2
+    is-requires
     returns
     add-i
     loop-less

@@ -2,8 +2,8 @@ use mathlib.Core.Path.{_≡_}
 use Prim.Native.Nat.{_≤_, _-_}
 use lib.ListN.{length}
 use borrow.Author.Needs.{needs}
-use Rattle.figures.proofs.values.fill.Statement.{statement}
-use Rattle.figures.proofs.values.fill.Tie as tie
+use Rattle.lines.proofs.values.fill.Statement.{statement}
+use Rattle.lines.proofs.values.fill.Tie as tie
 
 abbrev Inv-loop : tie.InvT-loop
 Inv-loop room₀ with letters i₀ room i = (i ≤ length room₀) × (length room ≡ length room₀)

@@ -1,8 +1,8 @@
 use Prim.Native.Nat.{_≤_, _-_}
 use lib.ListN.{length}
 use borrow.Author.Needs.{needs}
-use Rattle.figures.proofs.values.sum.Statement.{statement}
-use Rattle.figures.proofs.values.sum.Tie as tie
+use Rattle.lines.proofs.values.sum.Statement.{statement}
+use Rattle.lines.proofs.values.sum.Tie as tie
 
 abbrev Inv-loop : tie.InvT-loop
 Inv-loop b sum₀ i₀ sum i = i ≤ length b
