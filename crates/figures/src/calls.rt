@@ -28,7 +28,7 @@ read_fixed N unchecked|checked key V
 free_count
 bytes N N
 value V";
-    if words::is_at(line, 0, b"#") {
+    if words::part(line, 0, b'#').len() == 0 {
         return NOTHING;
     }
     forms::which_form(line, forms)
