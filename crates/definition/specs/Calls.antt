@@ -13,7 +13,7 @@ use Rattle.definition.specs.Tests.{refuse, first}
 use Rattle.definition.specs.Settings.{wordBytes, countBytes, hashBytes, prefixLen, startOverhead, badSettings}
 use Rattle.definition.specs.Slots.{View, view, lastRemoved, filled, countOf, markOf, Store, store}
 use Rattle.definition.specs.FreeList.{freeList, membersOf}
-use Rattle.definition.specs.Chains.{Walk, headFault, walk, contentOf}
+use Rattle.definition.specs.Chains.{headFault, walk, contentOf}
 use Rattle.definition.specs.Parts.{prefix, pieces}
 use Rattle.definition.specs.Effect.{newSlots, effect}
 use Rattle.definition.specs.Answers.{Answer, refusal, at, accepted, count, lastReference, found, members}

@@ -1,13 +1,11 @@
 -- Document 01's figures marked (P), "Figures either side", as one list with a single claim over the whole list, by computation;
 -- then, in the same way, "Readings that look right and are not", each as the figure that it gets wrong.
 use mathlib.Core.Path.{_≡_, refl}
-use Prim.Native.Nat.{ℕ, zero, suc, _+_, _-_, _*_}
+use Prim.Native.Nat.{ℕ, _+_}
 use mathlib.Core.Bool.{Bool, true, false, cond, _&&_}
 use mathlib.Core.List.{List, [], _∷_, _++_, headD}
-use mathlib.Core.Option.{Option, none, some}
-use lib.IntN.{ℤ, pos, negsuc}
+use lib.IntN.{pos, negsuc}
 use lib.ListN.{length, take, drop, replicate}
-use lib.Dec.{eqb}
 use Rattle.definition.specs.declared.Settings.{Settings}
 use Rattle.definition.specs.Numbers.{le, bytes, num, over, put, sameBytes, range}
 use Rattle.definition.specs.Tests.{refuse, first}
@@ -50,19 +48,19 @@ ins : Settings → ℕ → Bool → List ℕ → Out
 ins s n mark t = insert s hash (replicate n 7) mark t
 
 -- an answer as numbers
-code : Answer → List ℕ
-code (refusal n) = 0 ∷ n ∷ []
-code (at h) = 1 ∷ h ∷ []
-code accepted = 2 ∷ []
-code (count n) = 3 ∷ n ∷ []
-code lastReference = 4 ∷ []
-code (found n m c v) = 5 ∷ n ∷ cond m 1 0 ∷ c ∷ v ∷ []
-code (content c) = 6 ∷ c
-code (members n) = 7 ∷ n ∷ []
+unfoldable pub numbers : Answer → List ℕ
+numbers (refusal n) = 0 ∷ n ∷ []
+numbers (at h) = 1 ∷ h ∷ []
+numbers accepted = 2 ∷ []
+numbers (count n) = 3 ∷ n ∷ []
+numbers lastReference = 4 ∷ []
+numbers (found n m c v) = 5 ∷ n ∷ cond m 1 0 ∷ c ∷ v ∷ []
+numbers (content c) = 6 ∷ c
+numbers (members n) = 7 ∷ n ∷ []
 
 -- a call gave this answer; the bytes from place i on are these; the whole table is
 answers : Out → Answer → Bool
-answers o a = sameBytes (code (o .0)) (code a)
+answers o a = sameBytes (numbers (o .0)) (numbers a)
 
 holds : Out → ℕ → List ℕ → Bool
 holds o i e = sameBytes (take (length e) (drop i (o .1))) e
@@ -141,12 +139,12 @@ figures =
     ∷ answers (change entry64 (negsuc 0) 1 (change entry64 (pos 1) 1 top .1)) (count 0xffff_ffff)
     ∷ []
 
-pub every : List Bool → Bool
+unfoldable pub every : List Bool → Bool
 every [] = true
 every (b ∷ bs) = b && every bs
 
 pub figures-hold : every figures ≡ true
-unfolding headD le bytes num over put sameBytes range refuse first countLen keyLen prefixLen headOverhead startOverhead badSettings view lastRemoved filled marked isFree isContinuation isHead sizeWord sizeOf topBit totalOf headLink linkOf starts countOf keyOf markOf partialKey store push freeFrom freeList membersOf unlessRefused keyDiffers headFault lastFault laterParse isLast onward partsFrom sizedBody restBody bodyOf contentOf totalGood withTotal walk prefix cutRest cut pieces sizedPart continuationPart storedTotal headPart freeSlot restStores chainStores freeStores newSlots leftOver freeLeft freeAfter filledAfter headerStore headerStores effect capacity settingsTest bufferTest headerTest keyTest uncountedTest valueTest slotTest freeListTest roomTest unless insert replace remove lowered newCount countStore counted change code answers holds whole parts zeros hash small entry64 full bare ins inserted removed thinned again₁ again₂ again₃ m4065 m8142 m8143 four two five top figures every
+unfolding headD le bytes num over put sameBytes range refuse first countLen keyLen prefixLen headOverhead startOverhead badSettings view lastRemoved filled marked isFree isContinuation isHead sizeWord sizeOf topBit totalOf headLink linkOf starts countOf keyOf markOf partialKey store push freeFrom freeList membersOf unlessRefused keyDiffers headFault lastFault laterParse isLast onward partsFrom sizedBody restBody bodyOf contentOf totalGood withTotal walk prefix cutRest cut pieces sizedPart continuationPart storedTotal headPart freeSlot restStores chainStores freeStores newSlots leftOver freeLeft freeAfter filledAfter headerStore headerStores effect capacity settingsTest bufferTest headerTest keyTest uncountedTest valueTest slotTest freeListTest roomTest unless insert replace remove lowered newCount countStore counted change numbers answers holds whole parts zeros hash small entry64 full bare ins inserted removed thinned again₁ again₂ again₃ m4065 m8142 m8143 four two five top figures every
 figures-hold = refl
 
 -- ---- the readings that look right and are not
@@ -170,5 +168,5 @@ readings =
     ∷ []
 
 pub readings-hold : every readings ≡ true
-unfolding headD le bytes num over put sameBytes range refuse first countLen keyLen prefixLen headOverhead startOverhead badSettings view lastRemoved filled marked isFree isContinuation isHead sizeWord sizeOf topBit totalOf headLink linkOf starts countOf keyOf markOf partialKey store push freeFrom freeList membersOf unlessRefused keyDiffers headFault lastFault laterParse isLast onward partsFrom sizedBody restBody bodyOf contentOf totalGood withTotal walk prefix cutRest cut pieces sizedPart continuationPart storedTotal headPart freeSlot restStores chainStores freeStores newSlots leftOver freeLeft freeAfter filledAfter headerStore headerStores effect capacity settingsTest bufferTest headerTest keyTest uncountedTest valueTest slotTest freeListTest roomTest unless insert replace remove lowered newCount countStore counted change code answers holds whole parts zeros hash small entry64 full bare ins m4065 four two five replaced readings every
+unfolding headD le bytes num over put sameBytes range refuse first countLen keyLen prefixLen headOverhead startOverhead badSettings view lastRemoved filled marked isFree isContinuation isHead sizeWord sizeOf topBit totalOf headLink linkOf starts countOf keyOf markOf partialKey store push freeFrom freeList membersOf unlessRefused keyDiffers headFault lastFault laterParse isLast onward partsFrom sizedBody restBody bodyOf contentOf totalGood withTotal walk prefix cutRest cut pieces sizedPart continuationPart storedTotal headPart freeSlot restStores chainStores freeStores newSlots leftOver freeLeft freeAfter filledAfter headerStore headerStores effect capacity settingsTest bufferTest headerTest keyTest uncountedTest valueTest slotTest freeListTest roomTest unless insert replace remove lowered newCount countStore counted change numbers answers holds whole parts zeros hash small entry64 full bare ins m4065 four two five replaced readings every
 readings-hold = refl

@@ -1,7 +1,7 @@
 -- Writing a chain: prefix and content cut into parts, and the bytes of each part. Document 01, "Steps of each call", Write and
 -- Free a slot. The arithmetic is over E and the head's overhead; with 4,096 and 18 it gives 01's 4,078, 4,086 and 4,094.
 use Prim.Native.Nat.{ℕ, zero, suc, _+_, _-_}
-use mathlib.Core.Bool.{Bool, true, false, cond}
+use mathlib.Core.Bool.{Bool, cond}
 use mathlib.Core.List.{List, [], _∷_, _++_}
 use lib.ListN.{length, take, drop}
 use lib.Dec.{leb}

@@ -19,6 +19,9 @@ pub const KEY_SIZE: usize = 32;
 
 pub const KEY_SKIP: usize = 6;
 
+// The longest prefix: a count and a partial key.
+pub const PREFIX_SIZE: usize = 30;
+
 // The size word's top bit: the compressed mark.
 pub const COMPRESSED_MASK: u16 = 0x8000;
 

@@ -2,13 +2,13 @@
 -- number that they spell (`bytes-le`), and two numbers side by side are one (`le-two-parts`, `bytes-append`).
 use mathlib.Core.Path.{_≡_, refl, sym, ap, _∙_}
 use mathlib.Core.List.{List, [], _∷_, _++_}
-use Prim.Native.Nat.{ℕ, zero, suc, _+_, _*_, _-_, _/_, _%_, _^_, _≤_, _<_}
+use Prim.Native.Nat.{ℕ, zero, suc, _+_, _*_, _/_, _%_, _^_, _≤_, _<_}
 use native.Mathlib.Numerals.{add-one}
 use native.Mathlib.Nat.{mul-assoc, pow-succ', pow-suc, add-comm, div-add-mod, div-div-eq-div-mul, div-lt-iff-lt-mul, zero-lt-suc, suc-add, zero-add, div-one, min-le-left}
 use native.Mathlib.Decide.{decLt}
 use native.Mathlib.Omega.{arith}
-use lib.ListN.{length, take, drop, getD, length-take, length-drop, List·getD-eq-default}
-use lib.Seq.{drop-cons, drop-drop, take-add, getD-take, getD-drop, length-take-le}
+use lib.ListN.{length, take, drop, getD, length-take, List·getD-eq-default}
+use lib.Seq.{drop-cons, drop-drop, take-add, getD-take, getD-drop}
 use Rattle.definition.specs.Numbers.{le, bytes, num}
 use Rattle.laws.proofs.Lists.{length-part}
 

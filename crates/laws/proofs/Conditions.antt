@@ -1,7 +1,7 @@
 -- A condition decides: `cond b x y` is x where b holds and y where it does not. What a comparison says is in the library
 -- (borrow.Author.Tests); here are the two ways, case splits that keep their equation, and `&&` and `||` taken apart.
-use mathlib.Core.Path.{_≡_, refl, sym, _∙_}
-use mathlib.Core.Bool.{Bool, true, false, cond, _&&_, _||_, not}
+use mathlib.Core.Path.{_≡_, refl}
+use mathlib.Core.Bool.{Bool, true, false, cond, _&&_, _||_}
 use Prim.Native.Nat.{ℕ, _<_}
 use native.Mathlib.Decide.{decLt}
 use native.Mathlib.Omega.{arith}

@@ -13,6 +13,7 @@ pub mod Marks
 pub mod Turns
 pub mod Chains
 pub mod Starts
+pub mod Heads
 pub mod Passed
 pub mod Sizes
 pub mod Overheads

@@ -2,11 +2,11 @@
 -- was lent and comes back is a put into the whole (`lent`, `lent-put`): every byte outside it is as it was.
 use mathlib.Core.Path.{_≡_, refl, sym, ap, _∙_}
 use mathlib.Core.List.{List, [], _∷_, _++_, append-assoc, append-nil}
-use Prim.Native.Nat.{ℕ, zero, suc, _+_, _-_, _*_, _/_, _%_, _^_, _≤_, _<_}
+use Prim.Native.Nat.{ℕ, _+_, _-_, _/_, _%_, _^_, _≤_}
 use native.Mathlib.Numerals.{add-one}
 use native.Mathlib.Nat.{add-assoc}
 use native.Mathlib.Omega.{arith}
-use lib.ListN.{length, take, drop, getD, set, length-append, length-take, length-drop, take-append-drop}
+use lib.ListN.{length, take, drop, set, length-append, length-take, length-drop, take-append-drop}
 use lib.Seq.{drop-drop, take-add, take-take, take-at, drop-at, drop-append-le, sets-eq}
 use Rattle.definition.specs.Numbers.{bytes, over, put}
 use Rattle.laws.proofs.Bytes.{length-bytes, bytes-halves}

@@ -1,17 +1,16 @@
 -- Demand 3, said of the code: from a sound table, whatever calls the code performs one after another, refused ones among them, the table
 -- stays sound and as long, the code's answers and outputs are, one by one, those of the plain ledger, and the table's ledger is the one
 -- that the ledger's steps give (`code-agrees`).
-use Prim.{Unit, tt}
+use Prim.{Unit}
 use Prim.Native.Nat.{ℕ, _^_, _<_}
-use mathlib.Core.Path.{_≡_, refl, sym, ap, ap₂, _∙_, subst}
-use mathlib.Core.List.{List, [], _∷_, map}
+use mathlib.Core.Path.{_≡_, refl, sym, ap, _∙_, subst}
+use mathlib.Core.List.{List, [], _∷_}
 use lib.ListN.{length}
 use Rattle.definition.specs.declared.Settings.{Settings}
 use Rattle.definition.specs.Settings.{linkBytes}
-use Rattle.definition.specs.Answers.{Answer}
 use Rattle.definition.specs.Calls.{capacity}
 use Rattle.definition.specs.Sound.{Sound}
-use Rattle.definition.specs.Ledger.{Ledger, Call, Outcome}
+use Rattle.definition.specs.Ledger.{Call, Outcome}
 use Rattle.definition.specs.Run.{ledgerOf, run}
 use Rattle.ledger.proofs.Sequences.{Outcomes, inTurn, runAll, ledgerAll, AllAgree, sequence-agrees}
 use Rattle.promises.proofs.Performed.{Performed, callOf, startOf, outcomeOf, performed-is}

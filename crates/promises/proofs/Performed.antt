@@ -4,7 +4,7 @@
 use Prim.{tt}
 use Prim.Native.Nat.{ℕ}
 use lib.IntN.{ℤ}
-use mathlib.Core.Path.{_≡_, refl, ap}
+use mathlib.Core.Path.{_≡_, ap}
 use mathlib.Core.List.{List, []}
 use mathlib.Core.Bool.{Bool}
 use contract.Lifetimes.{Lfts}

@@ -2,13 +2,11 @@
 -- table and output coincide (`tight`); and an answer is one case of the code's enum (`…-one`), so the code's own answers coincide.
 use Prim.Native.Nat.{ℕ}
 use mathlib.Core.Path.{_≡_, refl, sym, ap, ap₂, _∙_}
-use mathlib.Core.List.{List}
 use mathlib.Core.Bool.{Bool, cond}
 use lib.Dec.{eqb}
 use Rattle.definition.specs.declared.Settings.{Settings}
 use Rattle.definition.specs.declared.Refusal.{Refusal}
 use Rattle.definition.specs.declared.Refusal.the-variants.{Settings as BadSettings, Buffer, Header, Key, Uncounted, Value, Slot, Absent, Size, Chain, FreeList, Room, Output}
-use Rattle.definition.specs.declared.Record.{Record}
 use Rattle.definition.specs.declared.Inserted.{Inserted}
 use Rattle.definition.specs.declared.Written.{Written}
 use Rattle.definition.specs.declared.Changed.{Changed}
@@ -16,7 +14,6 @@ use Rattle.definition.specs.declared.Found.{Found}
 use Rattle.definition.specs.declared.FreeCount.{FreeCount}
 use Rattle.definition.specs.Tests.{numberOf}
 use Rattle.definition.specs.Answers.{Answer, refusal, at, accepted, count, lastReference, found, content, members, insertedOf, writtenOf, changedOf, foundOf, freeCountOf}
-use Rattle.definition.specs.Ledger.{Call, Outcome}
 use Rattle.definition.specs.Run.{run}
 use Rattle.promises.proofs.Performed.{Performed, callOf, startOf, outcomeOf, performed-is}
 

@@ -1,7 +1,5 @@
-// Slots: what stands in one, and how one is written. The settings and the header, the reader of a slot, keys, the writer of a slot.
-// A slot is a part of the table, of E bytes, lent on to these functions; walks over several slots are left to others.
+// What the settings say of every slot: the test and the lengths, the header in slot 0, and the key in a prefix.
+// One slot read and written is left to reader and writer, several to walks and writes.
 pub mod header;
 pub mod keys;
-pub mod reader;
 pub mod settings;
-pub mod writer;

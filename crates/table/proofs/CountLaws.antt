@@ -1,89 +1,38 @@
 -- The change of a count and the length of the free list, each way out: refused by the checks of the table, of the slot or of the head,
 -- or answered as the definition says.
 use mathlib.Core.Path.{_≡_, refl, sym, ap, _∙_, subst}
-use mathlib.Core.Logic.{_≢_}
-use mathlib.Core.Bool.{Bool, true, false, cond, not}
+use mathlib.Core.Bool.{true, false, not}
 use mathlib.Core.List.{List, [], _∷_, _++_}
 use mathlib.Core.Option.{Option, none, some}
-use Prim.Native.Nat.{ℕ, zero, suc, _+_, _-_, _*_, _≤_, _<_}
+use Prim.Native.Nat.{ℕ, _+_, _-_, _*_, _≤_}
 use native.Mathlib.Omega.{arith}
-use lib.Dec.{eqb, leb}
 use lib.IntN.{ℤ}
 use lib.ListN.{length}
-use borrow.Author.Tests.{eq-eqb, ne-eqb, le-leb, lt-leb}
 use Rattle.definition.specs.declared.Settings.{Settings}
 use Rattle.definition.specs.declared.Header.{Header}
 use Rattle.definition.specs.declared.Refusal.{Refusal}
-use Rattle.definition.specs.declared.PartKind.{PartKind}
 use Rattle.definition.specs.declared.FreeCount.{FreeCount}
 use Rattle.definition.specs.Numbers.{bytes, put}
 use Rattle.definition.specs.Tests.{numberOf, first}
 use Rattle.definition.specs.Settings.{startOverhead, badSettings}
-use Rattle.definition.specs.Slots.{View, view, filled, countOf}
+use Rattle.definition.specs.Slots.{view, filled}
 use Rattle.definition.specs.FreeList.{freeFrom, freeList}
-use Rattle.definition.specs.Chains.{Parse, refused, part, unlessRefused, headFault, startPart, headParse}
+use Rattle.definition.specs.Chains.{headFault}
 use Rattle.definition.specs.Answers.{refusal, count, lastReference, members, freeCountOf}
 use Rattle.definition.specs.Calls.{capacity, uncountedTest, slotTest, tableTests, newCount, counted, change, freeCount}
-use Rattle.laws.proofs.Conditions.{or-left, or-right, or-no}
 use Rattle.laws.proofs.Tests.{number-some, refuse-yes, refuse-no, first-skip, first-pass, first-past, first-one, first-refuses, first-refuse-all}
 use Rattle.laws.proofs.Views.{within}
 use Rattle.laws.proofs.Overheads.{start-fits}
 use Rattle.laws.proofs.Passed.{slot-passed}
 use Rattle.laws.proofs.Counts.{count-store}
 use Rattle.walks.specs.Met.{freeIs}
-use Rattle.table.specs.declared.checks.Opened.{Opened}
-use Rattle.table.specs.declared.counting.Counted.{Counted}
+use Rattle.checks.specs.declared.Opened.{Opened}
+use Rattle.checks.specs.declared.count.Counted.{Counted}
 use Rattle.table.specs.declared.counting.Stepped.{Stepped}
-use Rattle.table.specs.Stages.{openedIs, countIs, steppedTo}
+use Rattle.checks.specs.Stages.{openedIs, countIs}
+use Rattle.table.specs.Steps.{steppedTo}
 use Rattle.table.proofs.Outcomes.{refuses, accepts, answer-refuses, answer-accepts}
-use Rattle.table.proofs.CheckLaws.{filled-inside}
-
--- ---- the slot and the head
-
--- the refusal of a look at a slot, 0 if there is none
-abbrev faultIn : Parse → ℕ
-faultIn (refused n) = n
-faultIn (part k n) = 0
-
-start-fault : (s : Settings) (b : List ℕ) → faultIn (startPart s b) ≡ 0
-unfolding startPart
-start-fault s b = go (s .multipart) _ _ _ _
-  where
-    go : (m : Bool) (k l : PartKind) (i j : ℕ) → faultIn (cond m (part k i) (part l j)) ≡ 0
-    go true k l i j = refl
-    go false k l i j = refl
-
--- a head's parse tells the first of its tests that refuses
-parse-fault : (s : Settings) (key : Option (List ℕ)) (b : List ℕ) → headFault s key 8 b ≡ faultIn (headParse s key 8 b)
-unfolding headParse unlessRefused
-parse-fault s key b = go (headFault s key 8 b)
-  where
-    go : (n : ℕ) → n ≡ faultIn (unlessRefused n (startPart s b))
-    go zero = sym (start-fault s b)
-    go (suc n) = refl
-
-module _ (s : Settings) (f : View) (h : ℕ) where
-  pub slot-zero : h ≡ 0 → countIs (Counted.Refused Refusal.Slot) s f h
-  unfolding slotTest
-  slot-zero e = first-refuses 7 _ _ (refuse-yes 7 _ (or-left (eqb h 0) (leb (filled f) h) (eq-eqb h 0 e))) (omega arith)
-
-  pub slot-above : filled f ≤ h → countIs (Counted.Refused Refusal.Slot) s f h
-  unfolding slotTest
-  slot-above e = first-refuses 7 _ _ (refuse-yes 7 _ (or-right (eqb h 0) (leb (filled f) h) (le-leb (filled f) h e))) (omega arith)
-
-  -- the slot passes, and the head decides
-  module _ (z : h ≢ 0) (b : h < filled f) where
-    decides : (p : Parse) → p ≡ headParse s none 8 (f h) → first (slotTest f h ∷ headFault s none 8 (f h) ∷ []) ≡ faultIn p
-    unfolding slotTest
-    decides p e =
-        first-skip _ _ (refuse-no 7 _ (or-no (eqb h 0) (leb (filled f) h) (ne-eqb h 0 z) (lt-leb (filled f) h b)))
-        ∙ first-one _ ∙ parse-fault s none (f h) ∙ ap faultIn (sym e)
-
-    pub head-refused : (r : Refusal) → refused (numberOf r) ≡ headParse s none 8 (f h) → countIs (Counted.Refused r) s f h
-    head-refused r e = decides (refused (numberOf r)) e
-
-    pub head-counted : (k : PartKind) (n c : ℕ) → part k n ≡ headParse s none 8 (f h) → c ≡ countOf s (f h) → countIs (Counted.Count c) s f h
-    head-counted k n c e q = (decides (part k n) e, q)
+use Rattle.checks.proofs.CheckLaws.{filled-inside}
 
 -- ---- the change of a count
 

@@ -1,8 +1,6 @@
 -- Laws of the calls: one for each way out.
 pub mod Outcomes
-pub mod CheckLaws
+pub mod WriteLaws
 pub mod ReadLaws
 pub mod StepLaws
 pub mod CountLaws
-pub mod ValueLaws
-pub mod RoomLaws

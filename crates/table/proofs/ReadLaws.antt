@@ -1,8 +1,8 @@
 -- The reads, each way out: refused by the checks that they share, by the output, or answered with what the chain holds.
-use mathlib.Core.Path.{_≡_, refl, sym, ap, ap₂, _∙_, subst}
-use mathlib.Core.Bool.{Bool, true, false, cond}
+use mathlib.Core.Path.{_≡_, refl, sym, ap, ap₂, _∙_}
+use mathlib.Core.Bool.{Bool, true, false}
 use mathlib.Core.List.{List, [], _∷_, _++_}
-use mathlib.Core.Option.{Option, none, some}
+use mathlib.Core.Option.{Option, none}
 use Prim.Native.Nat.{ℕ, zero, suc, _+_, _-_, _*_, _≤_, _<_}
 use native.Mathlib.Omega.{arith}
 use lib.ListN.{length, take, drop, length-drop}
@@ -21,15 +21,14 @@ use Rattle.laws.proofs.Conditions.{cond-no}
 use Rattle.laws.proofs.Tests.{number-some, refuse-yes, refuse-no, passed, first-pass, first-skip, first-one, first-refuses, first-both, first-past, first-refuse-all}
 use Rattle.laws.proofs.Lists.{drop-take, length-part}
 use Rattle.laws.proofs.Puts.{put-front}
-use Rattle.laws.proofs.Views.{length-view}
 use Rattle.laws.proofs.Sizes.{sizes, slot-inside}
-use Rattle.laws.proofs.Passed.{Opened, opened, slot-passed, head-unkeyed, walk-fixed}
+use Rattle.laws.proofs.Passed.{opened, slot-passed, head-unkeyed, walk-fixed}
 use Rattle.walks.specs.declared.Extent.{Extent}
 use Rattle.walks.specs.declared.Walked.{Walked}
 use Rattle.walks.specs.Spans.{Copyable, contentAt}
 use Rattle.walks.proofs.StartCopies.{prefix-there}
 use Rattle.walks.proofs.ChainWalks.{size-fits, size-least}
-use Rattle.table.specs.Stages.{recordIs}
+use Rattle.checks.specs.Stages.{recordIs}
 use Rattle.table.proofs.Outcomes.{refuses, accepts}
 
 -- ---- a record whose checks passed

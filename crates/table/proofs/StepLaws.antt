@@ -15,7 +15,7 @@ use mir.ValLaws.{toZ-ofZ}
 use borrow.Author.Tests.{ltb-true, ltb-false, le-leb, lt-leb}
 use Rattle.definition.specs.Calls.{locked, lowered, newCount}
 use Rattle.table.specs.declared.counting.Stepped.{Stepped}
-use Rattle.table.specs.Stages.{steppedTo}
+use Rattle.table.specs.Steps.{steppedTo}
 
 -- ---- the step as the machine holds it, at 32 bits and at 64
 

@@ -1,2 +1,2 @@
--- What each stage of checks says.
-pub mod Stages
+-- What a step of a count says.
+pub mod Steps

@@ -1,15 +1,14 @@
 // Counts: the count of a record changed by a signed step, and the length of the free list.
-use crate::checks::Opened;
-use crate::checks::check_table;
+use checks::Opened;
+use checks::check_table;
+use checks::count::Counted;
+use checks::count::check_count;
 use definition::Changed;
 use definition::FreeCount;
 use definition::LOCKED_REF;
-use definition::Parsed;
 use definition::Refusal;
 use definition::Settings;
 use numbers::write_u32;
-use slots::reader::parse_head;
-use slots::reader::read_count;
 use slots::settings::start_overhead;
 use walks::free_list::check_free_refs;
 ghost use mathlib.Core.Path.{_≡_};
@@ -19,16 +18,9 @@ ghost use lib.IntN.{natAbs};
 ghost use lib.ListN.{length};
 ghost use Rattle.definition.specs.Numbers.{bytes, put};
 ghost use Rattle.definition.specs.Settings.{badSettings, startOverhead};
-ghost use Rattle.definition.specs.Slots.{view, filled as filledOf};
 ghost use Rattle.definition.specs.Answers.{changedOf, freeCountOf};
 ghost use Rattle.definition.specs.Calls.{newCount, change, freeCount};
-ghost use Rattle.table.specs.Stages.{countIs, steppedTo};
-
-// The count in a slot whose tests passed, or why it is refused.
-pub enum Counted {
-    Count(u32),
-    Refused(Refusal),
-}
+ghost use Rattle.table.specs.Steps.{steppedTo};
 
 // A count after a step: what is stored, or nothing is left.
 pub enum Stepped {
@@ -70,25 +62,6 @@ fn after_step(count: u32, step: i32) -> Stepped
 }
 
 // ---- the count in its slot
-
-// The tests of a count change in slot `at` of a table that passed 1, 2, 3 and 5: the slot and the head, whose count it answers.
-fn check_count(table: &[u8], s: Settings, filled: u64, at: u64) -> Counted
-    requires { ⌜ (badSettings s ≡ false) × (filled * s .size ≤ length (now table)) × (filled ≡ filledOf (view (s .size) (now table))) ⌝ }
-    ensures { λ r. ⌜ countIs r s (view (s .size) (now (table .entry))) at ⌝ }
-{
-    if at == 0 {
-        return Counted::Refused(Refusal::Slot);
-    }
-    if at >= filled {
-        return Counted::Refused(Refusal::Slot);
-    }
-    let a = (at as usize) * s.size;
-    let z = a + s.size;
-    match parse_head(&table[a..z], s, false, b"", Refusal::Absent) {
-        Parsed::Refused(r) => Counted::Refused(r),
-        Parsed::Part(_, _) => Counted::Count(read_count(&table[a..z], s)),
-    }
-}
 
 // Stores a count in its place in a slot; nothing else in the slot changes.
 fn write_count(slot: &mut [u8], s: Settings, count: u32)

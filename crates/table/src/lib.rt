@@ -1,6 +1,5 @@
 // The calls of the station, as document 01 has them: each for any table, settings, key, slot, step and buffer, with nothing asked of
 // the caller. A refused call changes no byte. The checks come first, in 01's order; from the first store on nothing can refuse.
-mod checks;
 mod counting;
 mod reading;
 mod writing;

@@ -1,11 +1,11 @@
 // The reads: the copying read for both kinds of table, the fixed read that hands back a part of the table, and its companion.
-use crate::checks::check_record;
+use checks::check_record;
 use definition::Found;
 use definition::Record;
 use definition::Refusal;
 use definition::Settings;
-use slots::reader::read_compressed;
-use slots::reader::read_count;
+use reader::read_compressed;
+use reader::read_count;
 use slots::settings::prefix_len;
 use walks::Walked;
 use walks::content::copy_content;

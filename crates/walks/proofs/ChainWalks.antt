@@ -1,34 +1,34 @@
 -- The walk of a whole chain: a plain slot alone, or a head, its later parts and, last, its total; and the tests of a call on it.
-use mathlib.Core.Path.{_≡_, refl, sym, ap, ap₂, _∙_, subst}
+use mathlib.Core.Path.{_≡_, refl, sym, ap, ap₂, _∙_}
 use mathlib.Core.Logic.{_≢_}
-use mathlib.Core.Bool.{Bool, true, false, cond, _||_, not}
-use mathlib.Core.List.{List, [], _∷_, _++_}
+use mathlib.Core.Bool.{Bool, true, false, cond, not}
+use mathlib.Core.List.{List, [], _∷_}
 use mathlib.Core.Option.{Option, none}
-use Prim.Native.Nat.{ℕ, zero, suc, _+_, _-_, _*_, _≤_, _<_}
+use Prim.Native.Nat.{ℕ, suc, _+_, _-_, _*_, _≤_, _<_}
 use native.Mathlib.Nat.{suc-mul}
 use native.Mathlib.Omega.{arith}
-use lib.Dec.{eqb, leb}
+use lib.Dec.{eqb}
 use lib.ListN.{length, drop, length-append, length-drop, length-take}
-use borrow.Author.Tests.{eq-eqb, ne-eqb, le-leb, lt-leb, ltb-false}
+use borrow.Author.Tests.{eq-eqb, ne-eqb, ltb-false}
 use Rattle.definition.specs.declared.Settings.{Settings}
 use Rattle.definition.specs.declared.Refusal.{Refusal}
 use Rattle.definition.specs.declared.PartKind.{PartKind}
 use Rattle.definition.specs.declared.PartKind.the-variants.{Head, Continuation, Last}
-use Rattle.definition.specs.Tests.{numberOf, refuse, first}
-use Rattle.definition.specs.Settings.{prefixLen, headOverhead, badSettings}
+use Rattle.definition.specs.Tests.{numberOf, refuse}
+use Rattle.definition.specs.Settings.{prefixLen, headOverhead}
 use Rattle.definition.specs.Slots.{View, view, filled, sizeOf, totalOf, headLink, markOf}
-use Rattle.definition.specs.Chains.{Parse, refused, part, unlessRefused, headFault, startPart, headParse, Walk, whole, partsFrom, sizedBody, restBody, bodyOf, contentOf, totalGood, withTotal, walk}
-use Rattle.definition.specs.Calls.{slotTest, chainTests}
-use Rattle.laws.proofs.Conditions.{yes-no, cond-yes, cond-no, or-left, or-right, or-no, and-skip}
+use Rattle.definition.specs.Chains.{refused, part, headFault, startPart, headParse, Walk, whole, partsFrom, sizedBody, restBody, bodyOf, contentOf, totalGood, withTotal, walk}
+use Rattle.definition.specs.Calls.{slotTest}
+use Rattle.laws.proofs.Conditions.{cond-yes, cond-no, and-skip}
 use Rattle.laws.proofs.Tests.{number-some, refuse-yes, refuse-no, first-skip, first-refuses, first-pass, first-one, passed}
 use Rattle.laws.proofs.Lists.{length-part}
-use Rattle.laws.proofs.Views.{length-view, apart}
-use Rattle.laws.proofs.Sizes.{Sizes, sizes}
+use Rattle.laws.proofs.Views.{apart}
 use Rattle.laws.proofs.Chains.{rest-walk}
 use Rattle.laws.proofs.Passed.{head-unkeyed}
+use Rattle.laws.proofs.Heads.{slot-good, parse-fault, parse-part}
 use Rattle.walks.specs.declared.Extent.{Extent}
 use Rattle.walks.specs.declared.Walked.{Walked}
-use Rattle.walks.specs.Met.{walkedIs, restIs, chainIs, chainTested}
+use Rattle.walks.specs.Met.{restIs, chainIs, chainTested}
 
 -- ---- how much later parts hold
 
@@ -168,50 +168,24 @@ plain-chain s f F h k n lo w e g other = go k n (starts-with s (f h) k n e) othe
 
 -- ---- the tests of a call
 
--- a refused parse is refused by the head's tests, an accepted one passed them
-parse-refused : (s : Settings) (b : List ℕ) (r n : ℕ) → refused r ≡ unlessRefused n (startPart s b) → n ≡ r
-unfolding unlessRefused startPart
-parse-refused s b r zero e = go (s .multipart) e
-  where
-    go : (m : Bool) → refused r ≡ cond m (part (Head (headLink s b)) (s .size - headOverhead s)) (part (Last 0) (sizeOf b)) → 0 ≡ r
-    go true q = absurd (let z : _≡_ {A = ℕ} 0 1 = cc in omega arith)
-    go false q = absurd (let z : _≡_ {A = ℕ} 0 1 = cc in omega arith)
-parse-refused s b r (suc n) e = cc
-
-parse-accepted : (s : Settings) (b : List ℕ) (k : PartKind) (m n : ℕ) → part k m ≡ unlessRefused n (startPart s b) → (part k m ≡ startPart s b) × (n ≡ 0)
-unfolding unlessRefused
-parse-accepted s b k m zero e = (e, refl)
-parse-accepted s b k m (suc n) e = absurd (let z : _≡_ {A = ℕ} 0 1 = cc in omega arith)
-
 module _ (s : Settings) (f : View) (h : ℕ) (key : Option (List ℕ)) where
-  pub slot-zero : h ≡ 0 → chainTested (Walked.Refused Refusal.Slot) s f h key
-  unfolding slotTest
-  slot-zero e = first-refuses 7 _ _ (refuse-yes 7 _ (or-left (eqb h 0) (leb (filled f) h) (eq-eqb h 0 e))) (omega arith)
-
-  pub slot-above : filled f ≤ h → chainTested (Walked.Refused Refusal.Slot) s f h key
-  unfolding slotTest
-  slot-above e = first-refuses 7 _ _ (refuse-yes 7 _ (or-right (eqb h 0) (leb (filled f) h) (le-leb (filled f) h e))) (omega arith)
+  pub slot-refused : slotTest f h ≡ 7 → chainTested (Walked.Refused Refusal.Slot) s f h key
+  slot-refused e = first-refuses 7 _ _ e (omega arith)
 
   module _ (z : h ≢ 0) (b : h < filled f) where
-    slot-good : slotTest f h ≡ 0
-    unfolding slotTest
-    slot-good = refuse-no 7 _ (or-no (eqb h 0) (leb (filled f) h) (ne-eqb h 0 z) (lt-leb (filled f) h b))
-
     -- the head is refused
     pub head-refused : (r : Refusal) → refused (numberOf r) ≡ headParse s key 8 (f h) → chainTested (Walked.Refused r) s f h key
-    unfolding headParse
-    head-refused r e = first-skip _ _ slot-good ∙ first-refuses (numberOf r) _ _ (parse-refused s (f h) (numberOf r) (headFault s key 8 (f h)) e) (number-some r)
+    head-refused r e = first-skip _ _ (slot-good f h z b) ∙ first-refuses (numberOf r) _ _ (parse-fault s key 8 (f h) (refused (numberOf r)) e) (number-some r)
 
     module _ (k : PartKind) (n : ℕ) (e : part k n ≡ headParse s key 8 (f h)) where
-      good-head : (part k n ≡ startPart s (f h)) × (headFault s key 8 (f h) ≡ 0)
-      unfolding headParse
-      good-head = parse-accepted s (f h) k n (headFault s key 8 (f h)) e
+      passes : headFault s key 8 (f h) ≡ 0
+      passes = parse-fault s key 8 (f h) (part k n) e
 
       -- it is accepted
       pub head-accepted : (part k n ≡ startPart s (f h)) × (headFault s none 8 (f h) ≡ 0)
-      head-accepted = (good-head .0, head-unkeyed s key (f h) (good-head .1))
+      head-accepted = (parse-part s key 8 (f h) k n e, head-unkeyed s key (f h) passes)
 
       -- and the walk decides
       pub walk-decides : (r : Walked) → chainIs r s f (walk s f (filled f) h) → chainTested r s f h key
-      walk-decides (Walked.Chain x) c = (first-skip _ _ slot-good ∙ first-skip _ _ (good-head .1) ∙ first-one _ ∙ c .0, c .1, c .2)
-      walk-decides (Walked.Refused r) c = first-skip _ _ slot-good ∙ first-skip _ _ (good-head .1) ∙ first-one _ ∙ c
+      walk-decides (Walked.Chain x) c = (first-skip _ _ (slot-good f h z b) ∙ first-skip _ _ passes ∙ first-one _ ∙ c .0, c .1, c .2)
+      walk-decides (Walked.Refused r) c = first-skip _ _ (slot-good f h z b) ∙ first-skip _ _ passes ∙ first-one _ ∙ c

@@ -1,19 +1,18 @@
 -- A copy of part of a chain's bytes, piece by piece: what is copied of one piece and then of the rest is what is copied of both
 -- (`split-copy`), and a turn over a later part leaves the rest to copy (`turn`).
-use mathlib.Core.Path.{_≡_, refl, sym, ap, ap₂, _∙_, subst}
-use mathlib.Core.Bool.{Bool, true, false, cond}
+use mathlib.Core.Path.{_≡_, refl, sym, ap, ap₂, _∙_}
+use mathlib.Core.Bool.{Bool, false}
 use mathlib.Core.List.{List, [], _∷_, _++_, append-nil}
-use Prim.Native.Nat.{ℕ, zero, suc, _+_, _-_, _*_, _≤_, _<_, min}
-use native.Mathlib.Nat.{min-eq-left, min-eq-right}
+use Prim.Native.Nat.{ℕ, _+_, _-_, _*_, _≤_, _<_, min}
 use native.Mathlib.Decide.{decLe}
 use native.Mathlib.Omega.{arith}
 use lib.ListN.{length, take, drop, length-append, length-drop, drop-of-length-le}
-use lib.Seq.{take-all, take-take, drop-drop, drop-append-le, take-nil}
+use lib.Seq.{take-all, take-take, drop-drop, drop-append-le}
 use Rattle.definition.specs.declared.Settings.{Settings}
 use Rattle.definition.specs.Numbers.{put}
-use Rattle.definition.specs.Settings.{headOverhead, badSettings}
-use Rattle.definition.specs.Slots.{View, view, isContinuation, sizeOf, linkOf}
-use Rattle.definition.specs.Chains.{lastFault, sizedBody, restBody}
+use Rattle.definition.specs.Settings.{badSettings}
+use Rattle.definition.specs.Slots.{view, isContinuation, sizeOf, linkOf}
+use Rattle.definition.specs.Chains.{sizedBody, restBody}
 use Rattle.laws.proofs.Conditions.{cond-yes, cond-no}
 use Rattle.laws.proofs.Lists.{take-append, drop-append, drop-take, length-part}
 use Rattle.laws.proofs.Puts.{put-none, put-next, length-put}

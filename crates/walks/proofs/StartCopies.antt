@@ -10,16 +10,15 @@ use lib.ListN.{length, take, drop, length-drop, length-append}
 use lib.Seq.{take-all, drop-drop}
 use Rattle.definition.specs.declared.Settings.{Settings}
 use Rattle.definition.specs.Numbers.{put}
-use Rattle.definition.specs.Tests.{first}
 use Rattle.definition.specs.Settings.{prefixLen, headOverhead, badSettings}
-use Rattle.definition.specs.Slots.{view, filled, sizeOf, headLink, markOf}
+use Rattle.definition.specs.Slots.{view, filled, markOf}
 use Rattle.definition.specs.Chains.{headFault, sizedBody, restBody, bodyOf, contentOf, walk}
-use Rattle.definition.specs.Calls.{capacity, tableTests, chainTests}
+use Rattle.definition.specs.Calls.{capacity}
 use Rattle.laws.proofs.Conditions.{cond-yes, cond-no}
 use Rattle.laws.proofs.Lists.{length-part}
 use Rattle.laws.proofs.Puts.{length-put}
 use Rattle.laws.proofs.Views.{apart, length-view}
-use Rattle.laws.proofs.Sizes.{Sizes, sizes, prefix-most, slot-inside, slots-inside}
+use Rattle.laws.proofs.Sizes.{sizes, prefix-most, slot-inside, slots-inside}
 use Rattle.laws.proofs.Overheads.{head-is}
 use Rattle.laws.proofs.Chains.{TailAt, ChainAt, chain-head}
 use Rattle.laws.proofs.Passed.{Opened, opened, chain-passed}

@@ -1,8 +1,8 @@
 -- The walk of later parts counts parts and bytes: after n parts that hold k bytes, at slot `at`, what is still to be walked gives the
 -- same fault, parts and bytes as the whole walk (`Tallied`); each way out and the turn keep it.
 use mathlib.Core.Path.{_≡_, refl, sym, ap, ap₂, _∙_, subst}
-use mathlib.Core.Bool.{Bool, true, false, cond, _||_}
-use mathlib.Core.List.{List, [], _∷_, _++_}
+use mathlib.Core.Bool.{Bool, true, false, _||_}
+use mathlib.Core.List.{List, [], _∷_}
 use Prim.Native.Nat.{ℕ, zero, suc, _+_, _-_, _*_, _≤_, _<_}
 use native.Mathlib.Omega.{arith}
 use lib.Dec.{eqb}
@@ -14,16 +14,15 @@ use Rattle.definition.specs.declared.PartKind.{PartKind}
 use Rattle.definition.specs.declared.PartKind.the-variants.{Head, Continuation, Last}
 use Rattle.definition.specs.Tests.{numberOf}
 use Rattle.definition.specs.Slots.{View, isFree, isContinuation, isHead, sizeOf, linkOf}
-use Rattle.definition.specs.Chains.{Parse, refused, part, unlessRefused, lastFault, laterParse, Walk, stopped, whole, passed, isLast, onward, partsFrom, sizedBody, restBody}
+use Rattle.definition.specs.Chains.{Parse, refused, part, unlessRefused, lastFault, laterParse, Walk, stopped, passed, isLast, onward, partsFrom, sizedBody, restBody}
 use Rattle.laws.proofs.Conditions.{Which, which, isYes, isNo, cond-yes, cond-no}
 use Rattle.laws.proofs.Tests.{number-some}
 use Rattle.laws.proofs.Lists.{length-part}
 use Rattle.laws.proofs.Views.{apart}
 use Rattle.laws.proofs.Turns.{last-small, part-limit, part-unlinked, part-above, part-at}
 use Rattle.laws.proofs.Chains.{RestAt, rest-walk}
-use Rattle.walks.specs.declared.Extent.{Extent}
 use Rattle.walks.specs.declared.Walked.{Walked}
-use Rattle.walks.specs.Met.{walkedIs, restIs}
+use Rattle.walks.specs.Met.{restIs}
 
 -- ---- what a look at a later part says
 

@@ -9,7 +9,7 @@ use Rattle.definition.specs.declared.Settings.{Settings}
 use Rattle.definition.specs.Numbers.{put}
 use Rattle.definition.specs.Tests.{first}
 use Rattle.definition.specs.Settings.{wordBytes, linkOverhead, headOverhead}
-use Rattle.definition.specs.Slots.{View, view, filled, isContinuation, sizeOf, headLink, linkOf}
+use Rattle.definition.specs.Slots.{view, filled, isContinuation, sizeOf, headLink, linkOf}
 use Rattle.definition.specs.Chains.{restBody, contentOf, walk}
 use Rattle.definition.specs.Calls.{capacity, tableTests, chainTests}
 use Rattle.laws.proofs.Chains.{RestAt}

@@ -2,10 +2,10 @@
 use crate::Span;
 use definition::Settings;
 use numbers::copy;
-use slots::reader::is_continuation;
-use slots::reader::part_size;
-use slots::reader::read_head_next;
-use slots::reader::read_next;
+use reader::is_continuation;
+use reader::part_size;
+use reader::read_head_next;
+use reader::read_next;
 use slots::settings::head_overhead;
 use slots::settings::prefix_len;
 ghost use mathlib.Core.Path.{_≡_};

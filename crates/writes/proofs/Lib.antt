@@ -4,3 +4,4 @@ pub mod Pieces
 pub mod Clearing
 pub mod Going
 pub mod Accepted
+pub mod Starting

@@ -1,17 +1,19 @@
 // The writing loop: prefix and content laid into slots, what is left of the old chain freed, the header stored.
 // Nothing here refuses: the checks are made before, by others, and from the first store on nothing can go wrong.
+pub mod records;
+
 use definition::Header;
 use definition::Settings;
+use reader::is_continuation;
+use reader::is_head;
+use reader::read_head_next;
+use reader::read_next;
 use slots::header::write_header;
-use slots::reader::is_continuation;
-use slots::reader::is_head;
-use slots::reader::read_head_next;
-use slots::reader::read_next;
 use slots::settings::head_overhead;
-use slots::writer::store_continuation;
-use slots::writer::store_free;
-use slots::writer::store_head;
-use slots::writer::store_sized;
+use writer::store_continuation;
+use writer::store_free;
+use writer::store_head;
+use writer::store_sized;
 ghost use mathlib.Core.Path.{_≡_};
 ghost use mathlib.Core.Bool.{false};
 ghost use mathlib.Core.List.{List, _++_, headD};
@@ -116,7 +118,7 @@ fn clear_slot(table: &mut [u8], s: Settings, i: u64, h: Header) -> Header
 }
 
 // Frees the chain from slot `at` on, first to last, and stores the header, unless no slot was taken or freed.
-pub fn clear_chain(table: &mut [u8], s: Settings, at: u64, h: Header, same: bool)
+fn clear_chain(table: &mut [u8], s: Settings, at: u64, h: Header, same: bool)
     requires { ⌜ ((old : List ℕ) × (free : List ℕ) × Freeing s (now table) old free at h) ⌝ }
     ensures { λ _. ⌜ ((old free : List ℕ) → Freeing s (now (table .entry)) old free at h
         → now (table .exit) ≡ store (s .size) (now (table .entry)) (clearStores same old free (h .filled))) ⌝ }
@@ -159,7 +161,7 @@ fn store_linked(
 
 // Lays prefix and content into the slots of the old chain at `at` (none where it is 0), then into free ones, then into unused ones,
 // frees what is left of the old chain and stores the header, unless no slot was taken or freed. Answers the first slot.
-pub fn overwrite_chain(
+fn overwrite_chain(
     table: &mut [u8],
     s: Settings,
     mark: bool,

@@ -8,10 +8,11 @@ use borrow.Author.Needs.{needs}
 use borrow.Author.Tests.{not-true, not-false}
 use Rattle.definition.specs.Slots.{view}
 use Rattle.definition.specs.Calls.{newCount}
-use Rattle.table.specs.declared.checks.Opened.{Opened}
-use Rattle.table.specs.declared.counting.Counted.{Counted}
-use Rattle.table.specs.Stages.{openedIs, countIs, steppedTo}
-use Rattle.table.proofs.CheckLaws.{filled-inside}
+use Rattle.checks.specs.declared.Opened.{Opened}
+use Rattle.checks.specs.declared.count.Counted.{Counted}
+use Rattle.checks.specs.Stages.{openedIs, countIs}
+use Rattle.table.specs.Steps.{steppedTo}
+use Rattle.checks.proofs.CheckLaws.{filled-inside}
 use Rattle.table.proofs.CountLaws.{change-closed, change-uncounted, change-refused, change-inside, change-last, change-stored}
 use Rattle.table.proofs.counting.change_count.Statement.{statement}
 use Rattle.table.proofs.counting.change_count.Tie as tie

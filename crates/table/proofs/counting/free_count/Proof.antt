@@ -4,9 +4,9 @@ use denote.Ref.{now}
 use borrow.Author.Needs.{needs}
 use Rattle.definition.specs.Slots.{view}
 use Rattle.laws.proofs.Starts.{filled-pos}
-use Rattle.table.specs.declared.checks.Opened.{Opened}
-use Rattle.table.specs.Stages.{openedIs}
-use Rattle.table.proofs.CheckLaws.{filled-inside}
+use Rattle.checks.specs.declared.Opened.{Opened}
+use Rattle.checks.specs.Stages.{openedIs}
+use Rattle.checks.proofs.CheckLaws.{filled-inside}
 use Rattle.table.proofs.CountLaws.{free-closed, free-decides}
 use Rattle.table.proofs.counting.free_count.Statement.{statement}
 use Rattle.table.proofs.counting.free_count.Tie as tie

@@ -7,7 +7,7 @@ use Rattle.definition.specs.Answers.{foundOf}
 use Rattle.definition.specs.declared.Record.{Record}
 use Rattle.definition.specs.declared.Found.{Found}
 use Rattle.table.proofs.ReadLaws.{Readable, readable, fixed-multi, fixed-refused, fixed-found}
-use Rattle.table.specs.Stages.{recordIs}
+use Rattle.checks.specs.Stages.{recordIs}
 use Rattle.walks.specs.declared.Walked.{Walked}
 use Rattle.definition.specs.Calls.{checkedKey}
 use Rattle.table.proofs.reading.find_fixed.Statement.{statement}

@@ -4,7 +4,7 @@ use mathlib.Core.Path.{ap, _∙_, subst}
 use Prim.Native.Nat.{ℕ, _-_}
 use borrow.Author.Needs.{needs}
 use Rattle.table.proofs.ReadLaws.{Readable, readable, read-refused, read-short, copyable, read-done}
-use Rattle.table.specs.Stages.{recordIs}
+use Rattle.checks.specs.Stages.{recordIs}
 use Rattle.walks.specs.declared.Walked.{Walked}
 use Rattle.definition.specs.declared.Record.{Record}
 use Rattle.definition.specs.declared.Found.{Found}

@@ -4,7 +4,8 @@ use native.Mathlib.Omega.{arith}
 use mathlib.Core.Path.{_≡_, sym, ap, _∙_, subst}
 use Prim.Native.Nat.{ℕ, _+_, _*_, _≤_, _<_}
 use borrow.Author.Needs.{needs}
-use Rattle.walks.proofs.ChainWalks.{slot-zero, slot-above, head-refused, head-accepted, walk-decides}
+use Rattle.laws.proofs.Heads.{slot-zero, slot-above}
+use Rattle.walks.proofs.ChainWalks.{slot-refused, head-refused, head-accepted, walk-decides}
 use Rattle.walks.specs.Met.{chainIs}
 use Rattle.laws.proofs.Views.{within, part-view}
 use Rattle.definition.specs.Calls.{checkedKey}
@@ -35,11 +36,11 @@ part-is c = sym (ap parseOf (c .before .kind .given .1)) ∙ parsed (c .before .
 
 returns : tie.Need-returns
 returns c =
-    slot-zero _ _ _ _ (c .if1 .taken)
+    slot-refused _ _ _ _ (slot-zero _ _ (c .if1 .taken))
 
 returns-2 : tie.Need-returns-2
 returns-2 c =
-    slot-above _ _ _ _ (subst (λ (n : ℕ). n ≤ c .before .before .before .before .args .at) (c .before .before .before .before .pre .2) (c .if2 .taken))
+    slot-refused _ _ _ _ (slot-above _ _ (subst (λ (n : ℕ). n ≤ c .before .before .before .before .args .at) (c .before .before .before .before .pre .2) (c .if2 .taken)))
 
 mul-a : tie.Need-mul-a
 mul-a c =

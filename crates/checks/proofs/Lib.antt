@@ -1,0 +1,5 @@
+-- Laws of the checks: one for each way out.
+pub mod CheckLaws
+pub mod HeadLaws
+pub mod ValueLaws
+pub mod RoomLaws

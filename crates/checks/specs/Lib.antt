@@ -1,0 +1,2 @@
+-- What each stage of checks says.
+pub mod Stages

@@ -1,0 +1,2 @@
+-- Laws of the slot reader: each way out of the two parses.
+pub mod ParseLaws

@@ -1,0 +1,2 @@
+-- Laws of the slot writer: fields laid down one after another are the slot.
+pub mod WriteLaws
