@@ -1,7 +1,7 @@
 //! The oracle: the library against the original Rust, with a plain model of document 01 beside both.
 //!
 //! With no argument every suite runs, as in the gate. With arguments: a suite's name, then how many calls, then a seed. `record`
-//! writes recorded/answers.txt anew. The last line is 'N passed, K failed'.
+//! writes recorded/calls.txt and recorded/answers.txt anew. The last line is 'N passed, K failed'.
 
 mod compare;
 mod explain;
@@ -112,7 +112,11 @@ fn main() {
             std::process::exit(1);
         }
         match recorded::record(folder.clone()) {
-            Ok(text) => print!("{text}"),
+            Ok((calls, answers)) => {
+                let recorded = PathBuf::from(concat!(env!("CARGO_MANIFEST_DIR"), "/recorded"));
+                std::fs::write(recorded.join("calls.txt"), calls).expect("calls.txt is written");
+                std::fs::write(recorded.join("answers.txt"), answers).expect("answers.txt is written");
+            },
             Err(message) => eprintln!("{message}"),
         }
         let _ = std::fs::remove_dir_all(&folder);
@@ -189,13 +193,17 @@ fn main() {
         }
     }
     if wanted("recorded") {
-        let replayed = recorded::replay(recorded::ANSWERS);
-        println!("recorded: {} calls replayed", replayed.as_ref().unwrap_or(&0));
-        run.case("recorded answers, replayed", replayed.map(|_| ()));
+        for (words, text) in [("recorded answers, replayed", recorded::ANSWERS), ("figures of the program, replayed", recorded::FIGURES)] {
+            let replayed = recorded::replay(text);
+            println!("{words}: {} calls", replayed.as_ref().unwrap_or(&0));
+            run.case(words, replayed.map(|_| ()));
+        }
         if original::PRESENT {
-            let same = recorded::record(folder.clone()).and_then(|text| match text == recorded::ANSWERS {
-                true => Ok(()),
-                false => Err("recorded/answers.txt is not what `record` writes today".into()),
+            let same = recorded::record(folder.clone()).and_then(|(calls, answers)| {
+                match calls == recorded::CALLS && answers == recorded::ANSWERS {
+                    true => Ok(()),
+                    false => Err("recorded/calls.txt and recorded/answers.txt are not what `record` writes today".into()),
+                }
             });
             run.case("recorded answers, recorded anew", same);
         }

@@ -1,23 +1,26 @@
 use Prim.Native.Nat.{_≤_, _-_}
 use lib.ListN.{length}
 use borrow.Author.Needs.{needs}
-use Rattle.figures.proofs.tables.same_bytes.Statement.{statement}
-use Rattle.figures.proofs.tables.same_bytes.Tie as tie
+use Rattle.lines.proofs.words.start.Statement.{statement}
+use Rattle.lines.proofs.words.start.Tie as tie
 
 abbrev Inv-loop : tie.InvT-loop
-Inv-loop a b i₀ same₀ i same = i ≤ length a
+Inv-loop text place separator i₀ left₀ i left = i ≤ length text
 
 abbrev μ-loop : tie.MeasureT-loop
-μ-loop a b i₀ same₀ i same = length a - i
+μ-loop text place separator i₀ left₀ i left = length text - i
 
 loop-holds : tie.Need-loop-holds Inv-loop μ-loop
 loop-holds c = search needs
 
+returns : tie.Need-returns Inv-loop μ-loop
+returns c = search needs
+
 shared-slice-read-if2 : tie.Need-shared-slice-read-if2 Inv-loop μ-loop
 shared-slice-read-if2 c = search needs
 
-shared-slice-read-if2-2 : tie.Need-shared-slice-read-if2-2 Inv-loop μ-loop
-shared-slice-read-if2-2 c = search needs
+sub-left : tie.Need-sub-left Inv-loop μ-loop
+sub-left c = search needs
 
 add-i : tie.Need-add-i Inv-loop μ-loop
 add-i c = search needs
@@ -28,19 +31,20 @@ loop-less c = search needs
 loop-again : tie.Need-loop-again Inv-loop μ-loop
 loop-again c = search needs
 
-returns : tie.Need-returns Inv-loop μ-loop
-returns c = search needs
+returns-2 : tie.Need-returns-2 Inv-loop μ-loop
+returns-2 c = search needs
 
-pub same-bytes-spec : {M : Type 1} → statement M
-same-bytes-spec =
+pub start-spec : {M : Type 1} → statement M
+start-spec =
     tie.close
     (tie.spec
     Inv-loop
     μ-loop
     loop-holds
+    returns
     shared-slice-read-if2
-    shared-slice-read-if2-2
+    sub-left
     add-i
     loop-less
     loop-again
-    returns)
+    returns-2)
