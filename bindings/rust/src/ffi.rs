@@ -1,4 +1,4 @@
-//! The structs and functions of `include/pyltarka.h`, declared once. [`Table`](crate::Table) and [`View`](crate::View) are their
+//! The structs and functions of `include/pyltarka.h`, declared once for this crate. [`Table`](crate::Table) and [`View`](crate::View) are their
 //! safe face.
 //!
 //! Each pointer must have as many bytes behind it as the length beside it says; null with length 0 is an empty buffer. A buffer

@@ -1,5 +1,5 @@
 // Bytes and numbers in slices: little-endian numbers read and stored, marks as pairs of bytes, and a copy by words.
-// Nothing here knows of slots or tables.
+// Of a slot it knows only that its mark stands first.
 ghost use mathlib.Core.Path.{_≡_};
 ghost use mathlib.Core.List.{[], _∷_};
 ghost use Prim.Native.Nat.{_+_, _≤_, _<_};

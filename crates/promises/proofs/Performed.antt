@@ -1,6 +1,7 @@
 -- A call that the code performed: what was lent and passed, what came back, and the code's own contract of the two, read as the toolchain
--- reads it (`Post`), wherever the lent buffers lie and however long they are lent. From here on it is a call, the table that it started
--- from and its outcome, and that outcome is the definition's (`performed-is`).
+-- reads it (`Post`), wherever the lent buffers lie and however long they are lent. What is lent by `&` is the same afterwards: that is the
+-- language's rule. That each function ends in such a performance, whatever it is given, is what the toolchain proves of it.
+-- From here on it is a call, the table that it started from and its outcome, and that outcome is the definition's (`performed-is`).
 use Prim.{tt}
 use Prim.Native.Nat.{ℕ}
 use lib.IntN.{ℤ}

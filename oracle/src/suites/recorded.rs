@@ -52,7 +52,8 @@ fn parse(line: &str) -> Option<Line> {
     let (line, mark) = line.strip_suffix(" compressed").map_or((line, false), |line| (line, true));
     let call = match line.split(' ').collect::<Vec<_>>().as_slice() {
         ["table", size, kind, counted, keyed, length] => {
-            let s = Settings { size: number(size)?, multipart: *kind == "multipart", counted: *counted == "counted", keyed: *keyed == "keyed" };
+            let s =
+                Settings { size: number(size)?, multipart: *kind == "multipart", counted: *counted == "counted", keyed: *keyed == "keyed" };
             return Some(Line::Table(s, number(length)? as usize));
         },
         ["set", at, byte] => return Some(Line::Set(number(at)? as usize, byte.parse().ok()?)),
@@ -226,34 +227,37 @@ fn damaged(plain: Settings, full: Settings) -> Vec<String> {
     let (a, b, c) = (insert(0, 2, 1, false), insert(0, 2, 2, false), insert(0, 2, 3, false));
     let start = [table(plain, 160), a.clone(), b, c, remove(1), remove(2), String::new()];
     let calls = [free_count(), replace(3, 0, 1, 4, false), remove(3), a];
-    tried("Free lists: a loop, FILLED, a slot that is not free, the header.", &[start.as_slice(), &calls].concat(), &[
-        (34, 2, 0),
-        (34, 4, 0),
-        (34, 3, 0),
-        (0, 4, 2),
-    ]);
+    tried(
+        "Free lists: a loop, FILLED, a slot that is not free, the header.",
+        &[start.as_slice(), &calls].concat(),
+        &[(34, 2, 0), (34, 4, 0), (34, 3, 0), (0, 4, 2)],
+    );
     let start = [table(full, 128), insert(7, 3, 1, false), String::new()];
     let calls = [read(1, "7", 40), change(1, 1), remove(1), replace(1, 7, 2, 2, false)];
-    tried("Sizes below the prefix and above E - 2; a count of 0.", &[start.as_slice(), &calls].concat(), &[
-        (64, 29, 33),
-        (64, 63, 33),
-        (66, 0, 1),
-    ]);
+    tried(
+        "Sizes below the prefix and above E - 2; a count of 0.",
+        &[start.as_slice(), &calls].concat(),
+        &[(64, 29, 33), (64, 63, 33), (66, 0, 1)],
+    );
     let chains = Settings { size: 4_096, multipart: true, counted: false, keyed: false };
     let (long, short) = (insert(0, 8_173, 1, false), insert(0, 4_095, 2, true));
     let start = [table(chains, 8 * 4_096), long, short.clone(), short, remove(6), String::new()];
     let calls = [fetch(1, 8_173), replace(1, 0, 4_095, 3, false), remove(1)];
-    tried("Chains 1-2-3: a loop, a head, a free slot, 0, FILLED, a part left out, a total, a last part's size, no head.", &[start.as_slice(), &calls].concat(), &[
-        (8_194, 2, 3),
-        (4_106, 4, 2),
-        (4_106, 6, 2),
-        (4_106, 0, 2),
-        (4_106, 8, 2),
-        (4_106, 3, 2),
-        (4_098, 238, 237),
-        (12_289, 16, 0),
-        (4_096, 254, 253),
-    ]);
+    tried(
+        "Chains 1-2-3: a loop, a head, a free slot, 0, FILLED, a part left out, a total, a last part's size, no head.",
+        &[start.as_slice(), &calls].concat(),
+        &[
+            (8_194, 2, 3),
+            (4_106, 4, 2),
+            (4_106, 6, 2),
+            (4_106, 0, 2),
+            (4_106, 8, 2),
+            (4_106, 3, 2),
+            (4_098, 238, 237),
+            (12_289, 16, 0),
+            (4_096, 254, 253),
+        ],
+    );
     all
 }
 
