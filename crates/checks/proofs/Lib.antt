@@ -1,5 +1,4 @@
 -- Laws of the checks: one for each way out.
 pub mod CheckLaws
-pub mod HeadLaws
 pub mod ValueLaws
 pub mod RoomLaws

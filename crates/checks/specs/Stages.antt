@@ -18,7 +18,6 @@ use Rattle.walks.specs.Met.{walkedIs}
 use Rattle.checks.specs.declared.Opened.{Opened}
 use Rattle.checks.specs.declared.value.Valued.{Valued}
 use Rattle.checks.specs.declared.writing.Fitted.{Fitted}
-use Rattle.checks.specs.declared.count.Counted.{Counted}
 
 -- tests 1, 2 and 3, and the header
 abbrev pub openedIs : Opened → Settings → List ℕ → Type 0
@@ -30,11 +29,6 @@ abbrev pub recordIs : Walked → Settings → List ℕ → ℕ → Option (List 
 recordIs r s t h key =
     walkedIs r (first (tableTests s (view (s .size) t) (capacity s t) ++ (checkedKeyTest s key ∷ chainTests s (view (s .size) t) h key)))
     (length (walk s (view (s .size) t) (filled (view (s .size) t)) h .slots)) (length (bodyOf s (view (s .size) t) (walk s (view (s .size) t) (filled (view (s .size) t)) h .slots)))
-
--- the slot and the head of a count change, and the count
-abbrev pub countIs : Counted → Settings → View → ℕ → Type 0
-countIs (Counted.Count n) s f h = (first (slotTest f h ∷ headFault s none 8 (f h) ∷ []) ≡ 0) × (n ≡ countOf s (f h))
-countIs (Counted.Refused r) s f h = first (slotTest f h ∷ headFault s none 8 (f h) ∷ []) ≡ numberOf r
 
 -- ---- insert, replace and remove
 

@@ -1,6 +1,5 @@
 // The checks of the calls, a stage each. They take the table as `&[u8]`, so that a refused call has nothing to write with.
 // Here those that several calls share: the table (1, 2, 3), the key (4), a record (1 to 4, 7 to 10).
-pub mod count;
 pub mod room;
 pub mod value;
 pub mod writing;
@@ -17,6 +16,7 @@ ghost use mathlib.Core.Path.{_≡_};
 ghost use mathlib.Core.Bool.{_&&_, not};
 ghost use lib.Dec.{eqb};
 ghost use lib.ListN.{length};
+ghost use Rattle.definition.specs.Settings.{hashBytes};
 ghost use Rattle.definition.specs.Tests.{refuse};
 ghost use Rattle.definition.specs.Calls.{checkedKeyTest, checkedKey};
 ghost use Rattle.checks.specs.Stages.{openedIs, recordIs};
@@ -47,7 +47,7 @@ pub fn check_table(table: &[u8], s: Settings) -> Opened
 
 // Test 4: a keyed table, and a key that is not 32 bytes long.
 pub fn key_bad(s: Settings, key: &[u8]) -> bool
-    ensures { λ r. ⌜ r ≡ (s .keyed && not (eqb (length (now (key .entry))) 32)) ⌝ }
+    ensures { λ r. ⌜ r ≡ (s .keyed && not (eqb (length (now (key .entry))) hashBytes)) ⌝ }
 {
     if s.keyed {
         return key.len() != definition::KEY_SIZE;

@@ -10,7 +10,7 @@ ghost use mathlib.Core.List.{List};
 ghost use Prim.Native.Nat.{ℕ, _-_, _<_, _≤_};
 ghost use lib.Dec.{leb, ltb};
 ghost use lib.ListN.{length};
-ghost use Rattle.definition.specs.Settings.{badSettings};
+ghost use Rattle.definition.specs.Settings.{wordBytes, leastSize, badSettings};
 ghost use Rattle.definition.specs.Parts.{pieces};
 ghost use Rattle.checks.specs.Stages.{valuedIs};
 
@@ -22,8 +22,8 @@ pub enum Valued {
 
 // Test 6: N bytes of prefix and content. Fixed: above E - 2; multipart: at most E - 2.
 fn value_bad(s: Settings, n: usize) -> bool
-    requires { ⌜ 32 ≤ s .size ⌝ }
-    ensures { λ r. ⌜ r ≡ cond (s .multipart) (leb n (s .size - 2)) (ltb (s .size - 2) n) ⌝ }
+    requires { ⌜ leastSize ≤ s .size ⌝ }
+    ensures { λ r. ⌜ r ≡ cond (s .multipart) (leb n (s .size - wordBytes)) (ltb (s .size - wordBytes) n) ⌝ }
 {
     if s.multipart {
         return n <= s.size - definition::SIZE_SIZE;
@@ -33,7 +33,7 @@ fn value_bad(s: Settings, n: usize) -> bool
 
 // The parts of n bytes of prefix and content: one on a fixed table, else a head and as many more as the rest takes.
 fn parts_needed(s: Settings, n: usize) -> u64
-    requires { ⌜ (badSettings s ≡ false) × (s .multipart ≡ true → s .size - 2 < n) ⌝ }
+    requires { ⌜ (badSettings s ≡ false) × (s .multipart ≡ true → s .size - wordBytes < n) ⌝ }
     ensures { λ r. ⌜ ((body : List ℕ) → length body ≡ n → r ≡ length (pieces s body)) ⌝ }
 {
     if !s.multipart {

@@ -26,12 +26,9 @@ Out = Answer × List ℕ
 zeros : ℕ → List ℕ
 zeros n = replicate n 0
 
--- no two bytes of the key alike, and contents that count up, so that it shows which bytes are stored and in what order
+-- no two bytes of the key alike, so that it shows which are stored
 hash : List ℕ
 hash = range 0 32
-
-counting : ℕ → List ℕ
-counting n = map (λ i. i % 256) (range 0 n)
 
 -- E = 32, and E = 64 counted and keyed
 small : Settings
@@ -49,7 +46,7 @@ bare = record { size = 4096; multipart = true; counted = false; keyed = false }
 
 -- n bytes inserted
 ins : Settings → ℕ → Bool → List ℕ → Out
-ins s n mark t = insert s hash (counting n) mark t
+ins s n mark t = insert s hash (replicate n 7) mark t
 
 -- an answer as numbers
 unfoldable pub numbers : Answer → List ℕ
@@ -148,10 +145,20 @@ every [] = true
 every (b ∷ bs) = b && every bs
 
 pub figures-hold : every figures ≡ true
-unfolding headD le bytes num over put sameBytes range refuse first countLen keyLen prefixLen headOverhead startOverhead badSettings view lastRemoved filled marked isFree isContinuation isHead sizeWord sizeOf topBit totalOf headLink linkOf starts countOf keyOf markOf partialKey store push freeFrom freeList membersOf unlessRefused keyDiffers headFault lastFault laterParse isLast onward partsFrom sizedBody restBody bodyOf contentOf totalGood withTotal walk prefix cutRest cut pieces sizedPart continuationPart storedTotal headPart freeSlot restStores chainStores freeStores newSlots leftOver freeLeft freeAfter filledAfter headerStore headerStores effect capacity settingsTest bufferTest headerTest keyTest uncountedTest valueTest slotTest freeListTest roomTest unless insert replace remove lowered newCount countStore counted change numbers answers holds whole parts zeros hash counting small entry64 full bare ins inserted removed thinned again₁ again₂ again₃ m4065 m8142 m8143 four two five top figures every
+unfolding headD le bytes num over put sameBytes range refuse first countLen keyLen prefixLen headOverhead startOverhead badSettings view lastRemoved filled marked isFree isContinuation isHead sizeWord sizeOf topBit totalOf headLink linkOf starts countOf keyOf markOf partialKey store push freeFrom freeList membersOf unlessRefused keyDiffers headFault lastFault laterParse isLast onward partsFrom sizedBody restBody bodyOf contentOf totalGood withTotal walk prefix cutRest cut pieces sizedPart continuationPart storedTotal headPart freeSlot restStores chainStores freeStores newSlots leftOver freeLeft freeAfter filledAfter headerStore headerStores effect capacity settingsTest bufferTest headerTest keyTest uncountedTest valueTest slotTest freeListTest roomTest unless insert replace remove lowered newCount countStore counted change numbers answers holds whole parts zeros hash small entry64 full bare ins inserted removed thinned again₁ again₂ again₃ m4065 m8142 m8143 four two five top figures every
 figures-hold = refl
 
 -- ---- the readings that look right and are not
+
+-- a content that counts up, so that it shows in what order it is stored; in one slot, and in two parts
+counting : ℕ → List ℕ
+counting n = map (λ i. i % 256) (range 0 n)
+
+plain : Out
+plain = insert entry64 hash (counting 5) false (zeros 128)
+
+spread : Out
+spread = insert full hash (counting 4065) false (zeros 12288)
 
 -- E = 64: count 5, then replaced
 replaced : Out
@@ -170,11 +177,11 @@ readings =
     -- a replace makes the count 1 again
     ∷ (holds replaced 66 (bytes 4 1) && answers (change entry64 (pos 0) 1 (replaced .1)) (count 1))
     -- of the key its bytes 6 to 31 are stored, after the count, and the content after them
-    ∷ holds (ins entry64 5 false (zeros 128)) 66 (bytes 4 1 ++ (range 6 26 ++ range 0 5))
+    ∷ holds plain 66 (bytes 4 1 ++ (range 6 26 ++ range 0 5))
     -- the last part goes on where the head left off: the head holds 4,078 bytes, 30 of them the prefix
-    ∷ (holds m4065 4144 (take 4048 (counting 4065)) && holds m4065 8194 (drop 4048 (counting 4065)))
+    ∷ (holds spread 4144 (take 4048 (counting 4065)) && holds spread 8194 (drop 4048 (counting 4065)))
     ∷ []
 
 pub readings-hold : every readings ≡ true
-unfolding headD le bytes num over put sameBytes range refuse first countLen keyLen prefixLen headOverhead startOverhead badSettings view lastRemoved filled marked isFree isContinuation isHead sizeWord sizeOf topBit totalOf headLink linkOf starts countOf keyOf markOf partialKey store push freeFrom freeList membersOf unlessRefused keyDiffers headFault lastFault laterParse isLast onward partsFrom sizedBody restBody bodyOf contentOf totalGood withTotal walk prefix cutRest cut pieces sizedPart continuationPart storedTotal headPart freeSlot restStores chainStores freeStores newSlots leftOver freeLeft freeAfter filledAfter headerStore headerStores effect capacity settingsTest bufferTest headerTest keyTest uncountedTest valueTest slotTest freeListTest roomTest unless insert replace remove lowered newCount countStore counted change numbers answers holds whole parts zeros hash counting small entry64 full bare ins m4065 four two five replaced readings every
+unfolding headD le bytes num over put sameBytes range refuse first countLen keyLen prefixLen headOverhead startOverhead badSettings view lastRemoved filled marked isFree isContinuation isHead sizeWord sizeOf topBit totalOf headLink linkOf starts countOf keyOf markOf partialKey store push freeFrom freeList membersOf unlessRefused keyDiffers headFault lastFault laterParse isLast onward partsFrom sizedBody restBody bodyOf contentOf totalGood withTotal walk prefix cutRest cut pieces sizedPart continuationPart storedTotal headPart freeSlot restStores chainStores freeStores newSlots leftOver freeLeft freeAfter filledAfter headerStore headerStores effect capacity settingsTest bufferTest headerTest keyTest uncountedTest valueTest slotTest freeListTest roomTest unless insert replace remove lowered newCount countStore counted change numbers answers holds whole parts zeros hash small entry64 full bare ins m4065 four two five counting plain spread replaced readings every
 readings-hold = refl

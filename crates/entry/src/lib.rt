@@ -5,6 +5,7 @@ ghost use mathlib.Core.Path.{_≡_};
 ghost use Prim.Native.Nat.{_+_, _≤_};
 ghost use lib.ListN.{length};
 ghost use Rattle.definition.specs.Numbers.{num};
+ghost use Rattle.definition.specs.Settings.{keyBytes};
 ghost use Rattle.entry.specs.Reading.{keyAt, moved};
 
 // The slot that is read, and the place of the next byte.
@@ -23,7 +24,7 @@ pub struct PartialKey {
 
 // The partial key at place `at`.
 pub fn key_at(s: &[u8], at: usize) -> PartialKey
-    requires { ⌜ at + 26 ≤ length (now s) ⌝ }
+    requires { ⌜ at + keyBytes ≤ length (now s) ⌝ }
     ensures { λ r. ⌜ r ≡ keyAt at (now (s .entry)) ⌝ }
 {
     PartialKey {
@@ -92,8 +93,8 @@ pub fn read_u64<'s, 'a>(r: &'s mut EntryRef<'a>) -> u64
 
 // The partial key at the reader's place, which moves past it.
 pub fn read_key<'s, 'a>(r: &'s mut EntryRef<'a>) -> PartialKey
-    requires { ⌜ now r .at + 26 ≤ length (now (now r .slot)) ⌝ }
-    ensures { λ k. ⌜ (k ≡ keyAt (now (r .entry) .at) (now (now (r .entry) .slot))) × (now (r .exit) ≡ moved (now (r .entry)) 26) ⌝ }
+    requires { ⌜ now r .at + keyBytes ≤ length (now (now r .slot)) ⌝ }
+    ensures { λ k. ⌜ (k ≡ keyAt (now (r .entry) .at) (now (now (r .entry) .slot))) × (now (r .exit) ≡ moved (now (r .entry)) keyBytes) ⌝ }
 {
     let at = r.at;
     let k = key_at(r.slot, at);

@@ -13,7 +13,7 @@ ghost use Prim.Native.Nat.{_-_, _≤_};
 ghost use lib.Dec.{ltb};
 ghost use lib.ListN.{length};
 ghost use Rattle.definition.specs.Tests.{numberOf};
-ghost use Rattle.definition.specs.Settings.{badSettings, prefixLen};
+ghost use Rattle.definition.specs.Settings.{wordBytes, linkOverhead, badSettings, prefixLen};
 ghost use Rattle.definition.specs.Slots.{marked, compressedMark, isFree, isContinuation, isHead, sizeOf, topBit, totalOf, headLink, linkOf, starts, countOf, markOf};
 ghost use Rattle.definition.specs.Chains.{headParse, laterParse};
 ghost use Rattle.definition.specs.Answers.{parseOf};
@@ -23,7 +23,7 @@ ghost use Rattle.definition.specs.Calls.{checkedKeyTest, checkedKey};
 
 // ff ff: a free slot.
 pub fn is_free(slot: &[u8]) -> bool
-    requires { ⌜ 2 ≤ length (now slot) ⌝ }
+    requires { ⌜ wordBytes ≤ length (now slot) ⌝ }
     ensures { λ r. ⌜ r ≡ isFree (now (slot .entry)) ⌝ }
 {
     has_mark(slot, b"\xff\xff")
@@ -31,7 +31,7 @@ pub fn is_free(slot: &[u8]) -> bool
 
 // fe ff: a continuation.
 pub fn is_continuation(slot: &[u8]) -> bool
-    requires { ⌜ 2 ≤ length (now slot) ⌝ }
+    requires { ⌜ wordBytes ≤ length (now slot) ⌝ }
     ensures { λ r. ⌜ r ≡ isContinuation (now (slot .entry)) ⌝ }
 {
     has_mark(slot, b"\xfe\xff")
@@ -39,7 +39,7 @@ pub fn is_continuation(slot: &[u8]) -> bool
 
 // fd 7f: a compressed head.
 pub fn is_compressed_head(slot: &[u8]) -> bool
-    requires { ⌜ 2 ≤ length (now slot) ⌝ }
+    requires { ⌜ wordBytes ≤ length (now slot) ⌝ }
     ensures { λ r. ⌜ r ≡ marked compressedMark (now (slot .entry)) ⌝ }
 {
     has_mark(slot, b"\xfd\x7f")
@@ -47,7 +47,7 @@ pub fn is_compressed_head(slot: &[u8]) -> bool
 
 // fd ff or fd 7f: a head.
 pub fn is_head(slot: &[u8]) -> bool
-    requires { ⌜ 2 ≤ length (now slot) ⌝ }
+    requires { ⌜ wordBytes ≤ length (now slot) ⌝ }
     ensures { λ r. ⌜ r ≡ isHead (now (slot .entry)) ⌝ }
 {
     if has_mark(slot, b"\xfd\xff") {
@@ -60,7 +60,7 @@ pub fn is_head(slot: &[u8]) -> bool
 
 // The size word's low 15 bits.
 pub fn part_size(slot: &[u8]) -> usize
-    requires { ⌜ 2 ≤ length (now slot) ⌝ }
+    requires { ⌜ wordBytes ≤ length (now slot) ⌝ }
     ensures { λ r. ⌜ r ≡ sizeOf (now (slot .entry)) ⌝ }
 {
     (read_u16(slot, 0) % definition::COMPRESSED_MASK) as usize
@@ -68,7 +68,7 @@ pub fn part_size(slot: &[u8]) -> usize
 
 // The link of a continuation or of a free slot.
 pub fn read_next(slot: &[u8]) -> u64
-    requires { ⌜ 10 ≤ length (now slot) ⌝ }
+    requires { ⌜ linkOverhead ≤ length (now slot) ⌝ }
     ensures { λ r. ⌜ r ≡ linkOf (now (slot .entry)) ⌝ }
 {
     entry::u64_at(slot, definition::SIZE_SIZE)
@@ -76,7 +76,7 @@ pub fn read_next(slot: &[u8]) -> u64
 
 // The content length in a head.
 pub fn read_total(slot: &[u8]) -> u64
-    requires { ⌜ 10 ≤ length (now slot) ⌝ }
+    requires { ⌜ linkOverhead ≤ length (now slot) ⌝ }
     ensures { λ r. ⌜ r ≡ totalOf (now (slot .entry)) ⌝ }
 {
     entry::u64_at(slot, definition::SIZE_SIZE)
@@ -93,7 +93,7 @@ pub fn read_head_next(slot: &[u8], s: Settings) -> u64
 
 // Whether a chain starts in the slot.
 pub fn starts_chain(slot: &[u8], s: Settings) -> bool
-    requires { ⌜ 2 ≤ length (now slot) ⌝ }
+    requires { ⌜ wordBytes ≤ length (now slot) ⌝ }
     ensures { λ r. ⌜ r ≡ starts s (now (slot .entry)) ⌝ }
 {
     if s.multipart {
@@ -116,7 +116,7 @@ pub fn read_count(slot: &[u8], s: Settings) -> u32
 
 // The compressed mark where a chain starts.
 pub fn read_compressed(slot: &[u8], s: Settings) -> bool
-    requires { ⌜ 2 ≤ length (now slot) ⌝ }
+    requires { ⌜ wordBytes ≤ length (now slot) ⌝ }
     ensures { λ r. ⌜ r ≡ markOf s (now (slot .entry)) ⌝ }
 {
     if s.multipart {
@@ -129,7 +129,7 @@ pub fn read_compressed(slot: &[u8], s: Settings) -> bool
 
 // Whether a plain slot counts fewer bytes than the prefix has.
 fn size_below_prefix(slot: &[u8], s: Settings) -> bool
-    requires { ⌜ 2 ≤ length (now slot) ⌝ }
+    requires { ⌜ wordBytes ≤ length (now slot) ⌝ }
     ensures { λ r. ⌜ r ≡ (not (s .multipart) && ltb (sizeOf (now (slot .entry))) (prefixLen s)) ⌝ }
 {
     if s.multipart {
@@ -140,8 +140,8 @@ fn size_below_prefix(slot: &[u8], s: Settings) -> bool
 
 // Whether a plain slot counts more bytes than the slot holds.
 fn size_above_slot(slot: &[u8], s: Settings) -> bool
-    requires { ⌜ (2 ≤ length (now slot)) × (2 ≤ s .size) ⌝ }
-    ensures { λ r. ⌜ r ≡ (not (s .multipart) && ltb (s .size - 2) (sizeOf (now (slot .entry)))) ⌝ }
+    requires { ⌜ (wordBytes ≤ length (now slot)) × (wordBytes ≤ s .size) ⌝ }
+    ensures { λ r. ⌜ r ≡ (not (s .multipart) && ltb (s .size - wordBytes) (sizeOf (now (slot .entry)))) ⌝ }
 {
     if s.multipart {
         return false;

@@ -5,11 +5,11 @@ use numbers::read_u64;
 use numbers::write_u64;
 ghost use mathlib.Core.Path.{_≡_};
 ghost use mathlib.Core.Bool.{false, cond, _||_};
-ghost use Prim.Native.Nat.{_≤_};
+ghost use Prim.Native.Nat.{_+_, _≤_};
 ghost use lib.Dec.{eqb, leb, ltb};
 ghost use lib.ListN.{length};
 ghost use Rattle.definition.specs.Numbers.{put};
-ghost use Rattle.definition.specs.Settings.{badSettings};
+ghost use Rattle.definition.specs.Settings.{linkBytes, badSettings};
 ghost use Rattle.definition.specs.Slots.{view, headerOf};
 ghost use Rattle.definition.specs.Effect.{headerStore};
 
@@ -32,7 +32,7 @@ pub fn read_header(table: &[u8], s: Settings) -> Header
 
 // Stores LAST_REMOVED and FILLED; the rest of slot 0 stays.
 pub fn write_header(table: &mut [u8], h: Header)
-    requires { ⌜ 16 ≤ length (now table) ⌝ }
+    requires { ⌜ linkBytes + linkBytes ≤ length (now table) ⌝ }
     ensures { λ _. ⌜ now (table .exit) ≡ put (now (table .entry)) 0 (headerStore (h .removed) (h .filled) .1) ⌝ }
 {
     write_u64(table, 0, h.removed);

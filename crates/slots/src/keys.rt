@@ -7,7 +7,7 @@ ghost use mathlib.Core.Option.{none, some};
 ghost use Prim.Native.Nat.{_+_, _≤_};
 ghost use lib.ListN.{length, take, drop};
 ghost use Rattle.definition.specs.Numbers.{sameBytes};
-ghost use Rattle.definition.specs.Settings.{badSettings, prefixLen};
+ghost use Rattle.definition.specs.Settings.{countBytes, keyBytes, hashBytes, badSettings, prefixLen};
 ghost use Rattle.definition.specs.Slots.{partialKey};
 ghost use Rattle.definition.specs.Chains.{keyDiffers};
 ghost use Rattle.definition.specs.Parts.{prefix};
@@ -15,8 +15,8 @@ ghost use Rattle.definition.specs.Calls.{keyTest, checkedKeyTest, checkedKey};
 
 // Whether the 26 bytes of the slot at place `at` are the key's bytes 6 to 31. By words: three of eight bytes and one of two.
 fn same_key(slot: &[u8], at: usize, key: &[u8]) -> bool
-    requires { ⌜ (at + 26 ≤ length (now slot)) × (length (now key) ≡ 32) ⌝ }
-    ensures { λ r. ⌜ r ≡ sameBytes (take 26 (drop at (now (slot .entry)))) (partialKey (now (key .entry))) ⌝ }
+    requires { ⌜ (at + keyBytes ≤ length (now slot)) × (length (now key) ≡ hashBytes) ⌝ }
+    ensures { λ r. ⌜ r ≡ sameBytes (take keyBytes (drop at (now (slot .entry)))) (partialKey (now (key .entry))) ⌝ }
 {
     let stored = entry::key_at(slot, at);
     let wanted = entry::key_at(key, definition::KEY_SKIP);
@@ -52,13 +52,13 @@ pub fn key_differs(slot: &[u8], s: Settings, checked: bool, key: &[u8]) -> bool
 
 // Writes the prefix of a new record, a count of 1 and the partial key, at the front of a buffer, and answers its length.
 pub fn write_prefix(buf: &mut [u8], s: Settings, key: &[u8]) -> usize
-    requires { ⌜ (length (now buf) ≡ 30) × (keyTest s (now key) ≡ 0) ⌝ }
+    requires { ⌜ (length (now buf) ≡ countBytes + keyBytes) × (keyTest s (now key) ≡ 0) ⌝ }
     ensures { λ r. ⌜ (take r (now (buf .exit)) ≡ prefix s (now (key .entry))) × (r ≡ prefixLen s) ⌝ }
 {
     if s.counted {
         write_u32(buf, 0, 1);
         if s.keyed {
-            numbers::copy(
+            copies::copy(
                 key,
                 definition::KEY_SKIP,
                 definition::PARTIAL_SIZE,
@@ -70,7 +70,7 @@ pub fn write_prefix(buf: &mut [u8], s: Settings, key: &[u8]) -> usize
         return definition::REFS_SIZE;
     }
     if s.keyed {
-        numbers::copy(key, definition::KEY_SKIP, definition::PARTIAL_SIZE, buf, 0);
+        copies::copy(key, definition::KEY_SKIP, definition::PARTIAL_SIZE, buf, 0);
         return definition::PARTIAL_SIZE;
     }
     0

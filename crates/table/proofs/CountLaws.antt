@@ -27,10 +27,10 @@ use Rattle.laws.proofs.Passed.{slot-passed}
 use Rattle.laws.proofs.Counts.{count-store}
 use Rattle.walks.specs.Met.{freeIs}
 use Rattle.checks.specs.declared.Opened.{Opened}
-use Rattle.checks.specs.declared.count.Counted.{Counted}
-use Rattle.table.specs.declared.counting.Stepped.{Stepped}
-use Rattle.checks.specs.Stages.{openedIs, countIs}
-use Rattle.table.specs.Steps.{steppedTo}
+use Rattle.counts.specs.declared.Counted.{Counted}
+use Rattle.counts.specs.declared.Stepped.{Stepped}
+use Rattle.checks.specs.Stages.{openedIs}
+use Rattle.counts.specs.Counts.{countIs, steppedTo}
 use Rattle.table.proofs.Outcomes.{refuses, accepts, answer-refuses, answer-accepts}
 use Rattle.checks.proofs.CheckLaws.{filled-inside}
 

@@ -2,5 +2,4 @@
 pub mod Outcomes
 pub mod WriteLaws
 pub mod ReadLaws
-pub mod StepLaws
 pub mod CountLaws

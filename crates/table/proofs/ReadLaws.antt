@@ -26,8 +26,8 @@ use Rattle.laws.proofs.Sizes.{sizes, slot-inside}
 use Rattle.laws.proofs.Passed.{opened, slot-passed, head-unkeyed, walk-fixed}
 use Rattle.walks.specs.declared.Extent.{Extent}
 use Rattle.walks.specs.declared.Walked.{Walked}
-use Rattle.walks.specs.Spans.{Copyable, contentAt}
-use Rattle.walks.proofs.StartCopies.{prefix-there}
+use Rattle.contents.specs.Spans.{Copyable, contentAt}
+use Rattle.contents.proofs.StartCopies.{prefix-there}
 use Rattle.walks.proofs.ChainWalks.{size-fits, size-least}
 use Rattle.checks.specs.Stages.{recordIs}
 use Rattle.table.proofs.Outcomes.{refuses, accepts}

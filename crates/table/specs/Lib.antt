@@ -1,3 +1,2 @@
--- What a step of a count says, and where a part of the table lies.
-pub mod Steps
+-- Where a part of the table lies.
 pub mod Places

@@ -1,5 +1,6 @@
 // The reads: the copying read for both kinds of table, the fixed read that hands back a part of the table, and its companion.
 use checks::check_record;
+use contents::copy_content;
 use definition::Found;
 use definition::Record;
 use definition::Refusal;
@@ -8,7 +9,6 @@ use reader::read_compressed;
 use reader::read_count;
 use slots::settings::prefix_len;
 use walks::Walked;
-use walks::content::copy_content;
 ghost use mathlib.Core.Path.{_≡_};
 ghost use mathlib.Core.Bool.{false};
 ghost use Prim.Native.Nat.{_+_, _*_, _≤_};

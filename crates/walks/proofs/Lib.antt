@@ -2,5 +2,3 @@
 pub mod FreeLaws
 pub mod WalkLaws
 pub mod ChainWalks
-pub mod CopyLaws
-pub mod StartCopies

@@ -1,3 +1,2 @@
 -- What a walk's answer says.
 pub mod Met
-pub mod Spans

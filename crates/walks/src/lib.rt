@@ -1,6 +1,5 @@
-// Walks over several slots: the free list, the parts of a chain, and the copy of a chain's content. Nothing here writes a table.
+// Walks over several slots: the free list, and the parts of a chain. Nothing here writes a table.
 pub mod chain;
-pub mod content;
 pub mod free_list;
 
 use definition::Refusal;
@@ -15,11 +14,4 @@ pub struct Extent {
 pub enum Walked {
     Chain(Extent),
     Refused(Refusal),
-}
-
-// Where a slot's piece of prefix and content lies in it, and the link to the next part, 0 if there is none.
-pub struct Span {
-    pub start: usize,
-    pub size: usize,
-    pub next: u64,
 }

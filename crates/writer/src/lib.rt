@@ -1,7 +1,7 @@
 // The slot writer: each kind of slot written over a slot's front, and the slot lent on from the middle of the table.
 // `prefix` and `content` are the two parts of what a chain holds, and `pos` a place in both joined.
+use copies::copy;
 use definition::Settings;
-use numbers::copy;
 use numbers::write_mark;
 use numbers::write_u16;
 use numbers::write_u64;
@@ -11,7 +11,7 @@ ghost use mathlib.Core.List.{_++_};
 ghost use Prim.Native.Nat.{_+_, _-_, _*_, _≤_, _<_};
 ghost use lib.ListN.{length, take, drop};
 ghost use Rattle.definition.specs.Numbers.{put};
-ghost use Rattle.definition.specs.Settings.{badSettings, headOverhead};
+ghost use Rattle.definition.specs.Settings.{wordBytes, linkOverhead, badSettings, headOverhead};
 ghost use Rattle.definition.specs.Parts.{sizedPart, continuationPart, headPart, freeSlot};
 ghost use Rattle.definition.specs.Slots.{headMark, compressedMark};
 
@@ -38,7 +38,7 @@ fn copy_body(prefix: &[u8], content: &[u8], from: usize, n: usize, dst: &mut [u8
 
 // A free slot: ff ff and the link.
 pub fn write_free(slot: &mut [u8], next: u64)
-    requires { ⌜ 10 ≤ length (now slot) ⌝ }
+    requires { ⌜ linkOverhead ≤ length (now slot) ⌝ }
     ensures { λ _. ⌜ now (slot .exit) ≡ put (now (slot .entry)) 0 (freeSlot next) ⌝ }
 {
     write_mark(slot, b"\xff\xff");
@@ -47,8 +47,8 @@ pub fn write_free(slot: &mut [u8], next: u64)
 
 // A continuation: fe ff, the link, then prefix and content from `pos` to the slot's end.
 pub fn write_continuation(slot: &mut [u8], next: u64, prefix: &[u8], content: &[u8], pos: usize)
-    requires { ⌜ (10 ≤ length (now slot)) × (pos + (length (now slot) - 10) ≤ length (now prefix) + length (now content)) ⌝ }
-    ensures { λ _. ⌜ now (slot .exit) ≡ put (now (slot .entry)) 0 (continuationPart next (take (length (now (slot .entry)) - 10) (drop pos (now (prefix .entry) ++ now (content .entry))))) ⌝ }
+    requires { ⌜ (linkOverhead ≤ length (now slot)) × (pos + (length (now slot) - linkOverhead) ≤ length (now prefix) + length (now content)) ⌝ }
+    ensures { λ _. ⌜ now (slot .exit) ≡ put (now (slot .entry)) 0 (continuationPart next (take (length (now (slot .entry)) - linkOverhead) (drop pos (now (prefix .entry) ++ now (content .entry))))) ⌝ }
 {
     let o = definition::SIZE_SIZE + definition::INDEX_SIZE;
     let n = slot.len() - o;
@@ -59,7 +59,7 @@ pub fn write_continuation(slot: &mut [u8], next: u64, prefix: &[u8], content: &[
 
 // A head's mark: fd ff, or fd 7f if compressed.
 fn write_head_mark(slot: &mut [u8], mark: bool)
-    requires { ⌜ 2 ≤ length (now slot) ⌝ }
+    requires { ⌜ wordBytes ≤ length (now slot) ⌝ }
     ensures { λ _. ⌜ now (slot .exit) ≡ put (now (slot .entry)) 0 (cond mark compressedMark headMark) ⌝ }
 {
     if mark {
@@ -104,7 +104,7 @@ fn size_word(n: u16, mark: bool) -> u16
 
 // A plain slot, or a last part: the size word, then what is left of prefix and content from `pos` on.
 pub fn write_sized(slot: &mut [u8], mark: bool, prefix: &[u8], content: &[u8], pos: usize)
-    requires { ⌜ (pos ≤ length (now prefix) + length (now content)) × ((length (now prefix) + length (now content)) - pos + 2 ≤ length (now slot)) × ((length (now prefix) + length (now content)) - pos < 0x8000) ⌝ }
+    requires { ⌜ (pos ≤ length (now prefix) + length (now content)) × ((length (now prefix) + length (now content)) - pos + wordBytes ≤ length (now slot)) × ((length (now prefix) + length (now content)) - pos < 0x8000) ⌝ }
     ensures { λ _. ⌜ now (slot .exit) ≡ put (now (slot .entry)) 0 (sizedPart mark (drop pos (now (prefix .entry) ++ now (content .entry)))) ⌝ }
 {
     let n = prefix.len() + content.len() - pos;
@@ -134,8 +134,8 @@ pub fn store_continuation(
     content: &[u8],
     pos: usize,
 )
-    requires { ⌜ (badSettings s ≡ false) × (i * s .size + s .size ≤ length (now table)) × (pos + (s .size - 10) ≤ length (now prefix) + length (now content)) ⌝ }
-    ensures { λ _. ⌜ now (table .exit) ≡ put (now (table .entry)) (i * s .size) (continuationPart next (take (s .size - 10) (drop pos (now (prefix .entry) ++ now (content .entry))))) ⌝ }
+    requires { ⌜ (badSettings s ≡ false) × (i * s .size + s .size ≤ length (now table)) × (pos + (s .size - linkOverhead) ≤ length (now prefix) + length (now content)) ⌝ }
+    ensures { λ _. ⌜ now (table .exit) ≡ put (now (table .entry)) (i * s .size) (continuationPart next (take (s .size - linkOverhead) (drop pos (now (prefix .entry) ++ now (content .entry))))) ⌝ }
 {
     let a = (i as usize) * s.size;
     let z = a + s.size;
@@ -171,7 +171,7 @@ pub fn store_sized(
     content: &[u8],
     pos: usize,
 )
-    requires { ⌜ (badSettings s ≡ false) × (i * s .size + s .size ≤ length (now table)) × (pos ≤ length (now prefix) + length (now content)) × ((length (now prefix) + length (now content)) - pos ≤ s .size - 2) ⌝ }
+    requires { ⌜ (badSettings s ≡ false) × (i * s .size + s .size ≤ length (now table)) × (pos ≤ length (now prefix) + length (now content)) × ((length (now prefix) + length (now content)) - pos ≤ s .size - wordBytes) ⌝ }
     ensures { λ _. ⌜ now (table .exit) ≡ put (now (table .entry)) (i * s .size) (sizedPart mark (drop pos (now (prefix .entry) ++ now (content .entry)))) ⌝ }
 {
     let a = (i as usize) * s.size;

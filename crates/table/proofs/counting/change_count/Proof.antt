@@ -9,9 +9,9 @@ use borrow.Author.Tests.{not-true, not-false}
 use Rattle.definition.specs.Slots.{view}
 use Rattle.definition.specs.Calls.{newCount}
 use Rattle.checks.specs.declared.Opened.{Opened}
-use Rattle.checks.specs.declared.count.Counted.{Counted}
-use Rattle.checks.specs.Stages.{openedIs, countIs}
-use Rattle.table.specs.Steps.{steppedTo}
+use Rattle.counts.specs.declared.Counted.{Counted}
+use Rattle.checks.specs.Stages.{openedIs}
+use Rattle.counts.specs.Counts.{countIs, steppedTo}
 use Rattle.checks.proofs.CheckLaws.{filled-inside}
 use Rattle.table.proofs.CountLaws.{change-closed, change-uncounted, change-refused, change-inside, change-last, change-stored}
 use Rattle.table.proofs.counting.change_count.Statement.{statement}

@@ -1,0 +1,2 @@
+-- Where content lies in slots, and what a copy of it starts from.
+pub mod Spans

@@ -1,0 +1,2 @@
+-- Laws of the copy.
+pub mod Copies
