@@ -69,6 +69,10 @@ holds o i e = sameBytes (take (length e) (drop i (o .1))) e
 whole : Out → List ℕ → Bool
 whole o e = sameBytes (o .1) e
 
+-- what is shown of an outcome, which is computed once
+shown : Out → (Out → Bool) → Bool
+shown o f = f o
+
 -- FILLED after a call: with one chain in a fresh table, one more than its parts
 parts : Out → ℕ → Bool
 parts o n = holds o 8 (bytes 8 (n + 1))
@@ -107,8 +111,8 @@ m8143 = ins full 8143 false (zeros 16384)
 four : Out
 four = ins bare 12259 false (zeros 20480)
 
-two : Out
-two = replace bare [] (replicate 5000 8) true 1 (four .1)
+shortened : Out → Out
+shortened o = replace bare [] (replicate 5000 8) true 1 (o .1)
 
 -- a count of 5, and one of 0xfffffffe
 five : List ℕ
@@ -127,12 +131,12 @@ figures =
     ∷ holds (ins entry64 32 true (zeros 128)) 64 (0x3e ∷ 0x80 ∷ [])
     ∷ answers (ins entry64 33 false (zeros 128)) (refusal 6)
     ∷ answers (ins full 4064 false (zeros 12288)) (refusal 6)
-    ∷ (parts m4065 2 && holds m4065 4098 (0xe1 ∷ 0x0f ∷ zeros 6) && holds m4065 8192 (0x11 ∷ 0x00 ∷ []))
-    ∷ (parts m8142 2 && holds m8142 8192 (0xfe ∷ 0x0f ∷ []))
-    ∷ (parts m8143 3 && holds m8143 12288 (0x09 ∷ 0x00 ∷ []))
+    ∷ shown m4065 (λ o. parts o 2 && holds o 4098 (0xe1 ∷ 0x0f ∷ zeros 6) && holds o 8192 (0x11 ∷ 0x00 ∷ []))
+    ∷ shown m8142 (λ o. parts o 2 && holds o 8192 (0xfe ∷ 0x0f ∷ []))
+    ∷ shown m8143 (λ o. parts o 3 && holds o 12288 (0x09 ∷ 0x00 ∷ []))
     ∷ (answers again₁ (at 3) && answers again₂ (at 1) && answers again₃ (at 4))
-    ∷ (parts four 4 && answers two accepted && holds two 0 (0x04 ∷ zeros 7))
-    ∷ (holds two 16384 (0xff ∷ 0xff ∷ 0x03 ∷ zeros 7) && holds two 12288 (0xff ∷ 0xff ∷ zeros 8))
+    ∷ shown four (λ o. parts o 4 && shown (shortened o) (λ r. answers r accepted && holds r 0 (0x04 ∷ zeros 7)
+    && holds r 16384 (0xff ∷ 0xff ∷ 0x03 ∷ zeros 7) && holds r 12288 (0xff ∷ 0xff ∷ zeros 8)))
     ∷ answers (change entry64 (negsuc 4) 1 five) lastReference
     ∷ answers (change entry64 (negsuc 3) 1 five) (count 1)
     ∷ answers (change entry64 (pos 0) 1 five) (count 5)
@@ -145,7 +149,7 @@ every [] = true
 every (b ∷ bs) = b && every bs
 
 pub figures-hold : every figures ≡ true
-unfolding headD le bytes num over put sameBytes range refuse first countLen keyLen prefixLen headOverhead startOverhead badSettings view lastRemoved filled marked isFree isContinuation isHead sizeWord sizeOf topBit totalOf headLink linkOf starts countOf keyOf markOf partialKey store push freeFrom freeList membersOf unlessRefused keyDiffers headFault lastFault laterParse isLast onward partsFrom sizedBody restBody bodyOf contentOf totalGood withTotal walk prefix cutRest cut pieces sizedPart continuationPart storedTotal headPart freeSlot restStores chainStores freeStores newSlots leftOver freeLeft freeAfter filledAfter headerStore headerStores effect capacity settingsTest bufferTest headerTest keyTest uncountedTest valueTest slotTest freeListTest roomTest unless insert replace remove lowered newCount countStore counted change numbers answers holds whole parts zeros hash small entry64 full bare ins inserted removed thinned again₁ again₂ again₃ m4065 m8142 m8143 four two five top figures every
+unfolding headD le bytes num over put sameBytes range refuse first countLen keyLen prefixLen headOverhead startOverhead badSettings view lastRemoved filled marked isFree isContinuation isHead sizeWord sizeOf topBit totalOf headLink linkOf starts countOf keyOf markOf partialKey store push freeFrom freeList membersOf unlessRefused keyDiffers headFault lastFault laterParse isLast onward partsFrom sizedBody restBody bodyOf contentOf totalGood withTotal walk prefix cutRest cut pieces sizedPart continuationPart storedTotal headPart freeSlot restStores chainStores freeStores newSlots leftOver freeLeft freeAfter filledAfter headerStore headerStores effect capacity settingsTest bufferTest headerTest keyTest uncountedTest valueTest slotTest freeListTest roomTest unless insert replace remove lowered newCount countStore counted change numbers answers holds whole parts zeros hash small entry64 full bare ins inserted removed thinned again₁ again₂ again₃ m4065 m8142 m8143 four shortened shown five top figures every
 figures-hold = refl
 
 -- ---- the readings that look right and are not
@@ -166,10 +170,11 @@ replaced = replace entry64 hash (replicate 4 8) false 1 five
 
 pub readings : List Bool
 readings =
-    -- the total counts content only, not the prefix
-    holds m4065 4098 (bytes 8 4065)
+    -- the total counts content only, not the prefix; and the last part goes on where the head left off, which holds 4,078 bytes, 30 of
+    -- them the prefix
+    shown spread (λ o. holds o 4098 (bytes 8 4065) && holds o 4144 (take 4048 (counting 4065)) && holds o 8194 (drop 4048 (counting 4065)))
     -- a leftover tail is freed from its first part: slot 4 is on top and links 3
-    ∷ holds two 16386 (bytes 8 3)
+    ∷ holds (shortened four) 16386 (bytes 8 3)
     -- a step of -1 takes one off; cast to unsigned before its sign is tested, it would lock
     ∷ answers (change entry64 (negsuc 0) 1 five) (count 4)
     -- the rest fits a last part up to 4,094: 8,140 bytes take two parts; with 4,086 they would take three
@@ -178,10 +183,8 @@ readings =
     ∷ (holds replaced 66 (bytes 4 1) && answers (change entry64 (pos 0) 1 (replaced .1)) (count 1))
     -- of the key its bytes 6 to 31 are stored, after the count, and the content after them
     ∷ holds plain 66 (bytes 4 1 ++ (range 6 26 ++ range 0 5))
-    -- the last part goes on where the head left off: the head holds 4,078 bytes, 30 of them the prefix
-    ∷ (holds spread 4144 (take 4048 (counting 4065)) && holds spread 8194 (drop 4048 (counting 4065)))
     ∷ []
 
 pub readings-hold : every readings ≡ true
-unfolding headD le bytes num over put sameBytes range refuse first countLen keyLen prefixLen headOverhead startOverhead badSettings view lastRemoved filled marked isFree isContinuation isHead sizeWord sizeOf topBit totalOf headLink linkOf starts countOf keyOf markOf partialKey store push freeFrom freeList membersOf unlessRefused keyDiffers headFault lastFault laterParse isLast onward partsFrom sizedBody restBody bodyOf contentOf totalGood withTotal walk prefix cutRest cut pieces sizedPart continuationPart storedTotal headPart freeSlot restStores chainStores freeStores newSlots leftOver freeLeft freeAfter filledAfter headerStore headerStores effect capacity settingsTest bufferTest headerTest keyTest uncountedTest valueTest slotTest freeListTest roomTest unless insert replace remove lowered newCount countStore counted change numbers answers holds whole parts zeros hash small entry64 full bare ins m4065 four two five counting plain spread replaced readings every
+unfolding headD le bytes num over put sameBytes range refuse first countLen keyLen prefixLen headOverhead startOverhead badSettings view lastRemoved filled marked isFree isContinuation isHead sizeWord sizeOf topBit totalOf headLink linkOf starts countOf keyOf markOf partialKey store push freeFrom freeList membersOf unlessRefused keyDiffers headFault lastFault laterParse isLast onward partsFrom sizedBody restBody bodyOf contentOf totalGood withTotal walk prefix cutRest cut pieces sizedPart continuationPart storedTotal headPart freeSlot restStores chainStores freeStores newSlots leftOver freeLeft freeAfter filledAfter headerStore headerStores effect capacity settingsTest bufferTest headerTest keyTest uncountedTest valueTest slotTest freeListTest roomTest unless insert replace remove lowered newCount countStore counted change numbers answers holds whole parts zeros hash small entry64 full bare ins four shortened shown five counting plain spread replaced readings every
 readings-hold = refl
