@@ -1,12 +1,12 @@
 -- The bytes before a content: at most 4 of a count and 26 of a key, 18 before a head's prefix and 2 before a plain slot's, so that
--- mark, length, link, count and key lie within the slot where a chain starts (`start-fits`).
-use mathlib.Core.Path.{_≡_, refl}
+-- mark, length, link, count and key lie within the slot where a chain starts (`start-fits`, `count-inside`).
+use mathlib.Core.Path.{_≡_, refl, ap}
 use mathlib.Core.Bool.{Bool, true, false, cond}
 use Prim.Native.Nat.{ℕ, _+_, _≤_}
 use native.Mathlib.Omega.{arith}
 use Rattle.definition.specs.declared.Settings.{Settings}
-use Rattle.definition.specs.Settings.{wordBytes, countLen, keyLen, prefixLen, headOverhead, startOverhead, badSettings}
-use Rattle.laws.proofs.Conditions.{cond-yes, cond-no}
+use Rattle.definition.specs.Settings.{wordBytes, countBytes, countLen, keyLen, prefixLen, headOverhead, startOverhead, badSettings}
+use Rattle.laws.proofs.Conditions.{cond-yes, cond-no, which, Which, isYes, isNo}
 use Rattle.laws.proofs.Sizes.{Sizes, sizes, prefix-most}
 
 cond-most : (b : Bool) (m n : ℕ) → n ≤ m → cond b m n ≤ m
@@ -46,10 +46,20 @@ pub start-multi : (s : Settings) → s .multipart ≡ true → startOverhead s �
 unfolding startOverhead
 start-multi s m = cond-yes (s .multipart) (headOverhead s) wordBytes m
 
--- the prefix lies within the slot where a chain starts
-pub start-fits : (s : Settings) → badSettings s ≡ false → startOverhead s + prefixLen s ≤ s .size
-start-fits s e = go (sizes s e) (s .multipart) refl
+-- the prefix lies within the slot where a chain starts, and so does a count
+start-room : (s : Settings) → Sizes s → startOverhead s + prefixLen s ≤ s .size
+start-room s z = go (which (s .multipart))
   where
-    go : Sizes s → (b : Bool) → s .multipart ≡ b → startOverhead s + prefixLen s ≤ s .size
-    go z true m = omega (arith, start-multi s m, z .roomy m)
-    go z false m = omega (arith, start-fixed s m, prefix-most s, z .least)
+    go : Which (s .multipart) → startOverhead s + prefixLen s ≤ s .size
+    go (isYes m) = omega (arith, start-multi s m, z .roomy m)
+    go (isNo m) = omega (arith, start-fixed s m, prefix-most s, z .least)
+
+pub start-fits : (s : Settings) → badSettings s ≡ false → startOverhead s + prefixLen s ≤ s .size
+start-fits s e = start-room s (sizes s e)
+
+pub counted-prefix : (s : Settings) → s .counted ≡ true → prefixLen s ≡ countBytes + keyLen s
+unfolding prefixLen countLen
+counted-prefix s d = ap (λ (n : ℕ). n + keyLen s) (cond-yes {X = ℕ} (s .counted) countBytes 0 d)
+
+pub count-inside : (s : Settings) → Sizes s → s .counted ≡ true → startOverhead s + countBytes ≤ s .size
+count-inside s z d = omega (arith, start-room s z, counted-prefix s d)
