@@ -21,8 +21,7 @@ use Rattle.laws.proofs.Tests.{refuse-no, first-skip, first-pass}
 use Rattle.laws.proofs.Lists.{drop-take}
 use Rattle.laws.proofs.Bytes.{le-bytes, length-bytes}
 use Rattle.laws.proofs.Chains.{TailAt, ChainAt, Same, restBody-frame, rest-frame}
-use Rattle.laws.proofs.Overheads.{start-least, start-fixed, start-multi, counted-prefix}
-use Rattle.laws.proofs.Parts.{overhead-bounds}
+use Rattle.laws.proofs.Overheads.{overhead-bounds, start-least, start-fixed, start-multi, counted-prefix}
 
 -- ---- b with the count c at place st
 
