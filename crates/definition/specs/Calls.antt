@@ -93,6 +93,7 @@ answerUnless (suc n) a = refusal (suc n)
 
 -- ---- where a call that writes takes new slots from
 
+-- 01 knows one such place, the table's own free list (`supplyOf`); the calls below are written for any
 pub record Supply : Type 0 where
   -- from these in order, then from FILLED up
   pub free : List ℕ
