@@ -16,7 +16,7 @@ use Rattle.definition.specs.declared.Written.{Written}
 use Rattle.definition.specs.Tests.{numberOf, refuse, first}
 use Rattle.definition.specs.Slots.{view, filled, headerOf}
 use Rattle.definition.specs.FreeList.{freeFrom, freeList}
-use Rattle.definition.specs.Calls.{capacity, roomTest, roomTests}
+use Rattle.definition.specs.Calls.{capacity, roomTest, supplyOf, roomTests}
 use Rattle.laws.proofs.Tests.{number-some, refuse-yes, refuse-no, first-skip, first-one, first-refuses}
 use Rattle.laws.proofs.Passed.{opened}
 use Rattle.walks.specs.Met.{freeIs}
@@ -45,7 +45,7 @@ module _ (s : Settings) (t : List ℕ) (need : ℕ) where
 
   module _ (h : Header) (o : openedIs (Opened.Table h) s t) (n : ℕ) (e : freeIs (FreeCount.Members n) (freeList (view (s .size) t)))
       (b : Bool) (q : b ≡ ltb (n + (length t / s .size - h .filled)) need) where
-    second : first (roomTests (view (s .size) t) (capacity s t) need) ≡ refuse 12 b
+    second : first (roomTests (supplyOf s t) need) ≡ refuse 12 b
     unfolding roomTest capacity
     second =
         first-skip _ _ (e .0) ∙ first-one _

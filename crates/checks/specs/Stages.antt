@@ -1,18 +1,18 @@
 -- What each stage of checks says of the definition's tests: they pass, with the values found, or the first that refuses gives this number.
 use mathlib.Core.Path.{_≡_}
-use mathlib.Core.List.{List, [], _∷_, _++_}
-use mathlib.Core.Option.{Option, none}
-use Prim.Native.Nat.{ℕ, _-_}
+use mathlib.Core.Bool.{false}
+use mathlib.Core.List.{List, _∷_, _++_}
+use mathlib.Core.Option.{Option}
+use Prim.Native.Nat.{ℕ}
 use lib.Dec.{eqb}
 use lib.ListN.{length}
 use Rattle.definition.specs.declared.Settings.{Settings}
 use Rattle.definition.specs.declared.Written.{Written}
 use Rattle.definition.specs.Tests.{numberOf, first}
-use Rattle.definition.specs.Slots.{View, view, filled, headerOf, countOf}
-use Rattle.definition.specs.FreeList.{freeList}
-use Rattle.definition.specs.Chains.{headFault, bodyOf, walk}
+use Rattle.definition.specs.Slots.{view, filled, headerOf}
+use Rattle.definition.specs.Chains.{bodyOf, walk}
 use Rattle.definition.specs.Parts.{prefix, pieces}
-use Rattle.definition.specs.Calls.{capacity, tableTests, valueTests, checkedKeyTest, slotTest, chainTests, roomTests, freeListTest}
+use Rattle.definition.specs.Calls.{capacity, tableTests, valueTests, checkedKeyTest, chainTests, supplyOf, roomTests, Insert, Replace, Remove, decision}
 use Rattle.walks.specs.declared.Walked.{Walked}
 use Rattle.walks.specs.Met.{walkedIs}
 use Rattle.checks.specs.declared.Opened.{Opened}
@@ -44,7 +44,7 @@ testedIs (Written.Refused r) tests = first tests ≡ numberOf r
 
 -- 11 and 12
 abbrev pub roomStage : Written → Settings → List ℕ → ℕ → Type 0
-roomStage r s t need = testedIs r (roomTests (view (s .size) t) (capacity s t) need)
+roomStage r s t need = testedIs r (roomTests (supplyOf s t) need)
 
 -- the slots of the chain at h, and the parts of a new record
 abbrev pub chainOf : Settings → List ℕ → ℕ → List ℕ
@@ -53,19 +53,15 @@ chainOf s t h = walk s (view (s .size) t) (filled (view (s .size) t)) h .slots
 abbrev pub newParts : Settings → List ℕ → List ℕ → ℕ
 newParts s key content = length (pieces s (prefix s key ++ content))
 
--- the tests of each call, as the definition lists them
+-- the tests of each call; the mark is in none of them
 abbrev pub insertTests : Settings → List ℕ → List ℕ → List ℕ → List ℕ
-insertTests s key content t =
-    tableTests s (view (s .size) t) (capacity s t) ++ (valueTests s key content ++ roomTests (view (s .size) t) (capacity s t) (newParts s key content))
+insertTests s key content t = decision s (Insert key content false) t .tests
 
 abbrev pub replaceTests : Settings → List ℕ → List ℕ → ℕ → List ℕ → List ℕ
-replaceTests s key content h t =
-    tableTests s (view (s .size) t) (capacity s t)
-    ++ (valueTests s key content ++ (chainTests s (view (s .size) t) h none ++ roomTests (view (s .size) t) (capacity s t) (newParts s key content - length (chainOf s t h))))
+replaceTests s key content h t = decision s (Replace key content false h) t .tests
 
 abbrev pub removeTests : Settings → ℕ → List ℕ → List ℕ
-removeTests s h t =
-    tableTests s (view (s .size) t) (capacity s t) ++ (chainTests s (view (s .size) t) h none ++ (freeListTest (freeList (view (s .size) t)) ∷ []))
+removeTests s h t = decision s (Remove h) t .tests
 
 -- all of replace's tests, and whether the new chain has as many parts as the old
 abbrev pub fittedIs : Fitted → Settings → List ℕ → List ℕ → ℕ → List ℕ → Type 0

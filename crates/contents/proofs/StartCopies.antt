@@ -19,7 +19,7 @@ use Rattle.laws.proofs.Lists.{length-part}
 use Rattle.laws.proofs.Puts.{length-put}
 use Rattle.laws.proofs.Views.{apart, length-view}
 use Rattle.laws.proofs.Sizes.{sizes, prefix-most, slot-inside, slots-inside}
-use Rattle.laws.proofs.Overheads.{head-is}
+use Rattle.laws.proofs.Overheads.{overhead-bounds}
 use Rattle.laws.proofs.Chains.{TailAt, ChainAt, chain-head}
 use Rattle.laws.proofs.Passed.{Opened, opened, chain-passed}
 use Rattle.contents.specs.declared.Span.{Span}
@@ -47,7 +47,7 @@ module _ (s : Settings) (t : List ℕ) (F at : ℕ) (good : badSettings s ≡ fa
       let is : startSpan s b ≡ headSpan s b = cond-yes (s .multipart) _ _ m in
       record {
         slot = slot;
-        lies = rw is (omega (arith, z .least, head-is s));
+        lies = rw is (omega (arith, z .least, overhead-bounds s));
         rest = l;
         short = omega arith;
         prefixed = rw is (omega (arith, z .roomy m));

@@ -1,17 +1,17 @@
 -- The calls: each an ordered list of tests, then its effect. Document 01, "Steps of each call" and "Numbers the station sees".
--- A refused call answers its number and changes nothing. `h` is the slot number that a call is given, `t` the table's bytes.
+-- A refused call answers its number and changes nothing. `h` is the slot number that a call is given, `t` the table's bytes, `f` its slots.
 use Prim.Native.Nat.{ℕ, zero, suc, _+_, _-_, _*_, _/_, min}
 use mathlib.Core.Bool.{Bool, false, cond, _&&_, _||_, not}
 use mathlib.Core.List.{List, [], _∷_, _++_, headD}
 use mathlib.Core.Option.{Option, none, some}
 use lib.IntN.{ℤ, pos, negsuc}
-use lib.ListN.{length, take}
+use lib.ListN.{length}
 use lib.Dec.{eqb, leb, ltb}
 use Rattle.definition.specs.declared.Settings.{Settings}
-use Rattle.definition.specs.Numbers.{bytes, over}
+use Rattle.definition.specs.Numbers.{bytes, over, put}
 use Rattle.definition.specs.Tests.{refuse, first}
 use Rattle.definition.specs.Settings.{wordBytes, countBytes, hashBytes, prefixLen, startOverhead, badSettings}
-use Rattle.definition.specs.Slots.{View, view, lastRemoved, filled, countOf, markOf, Store, store}
+use Rattle.definition.specs.Slots.{View, view, lastRemoved, filled, countOf, markOf, startBody, Store, store}
 use Rattle.definition.specs.FreeList.{freeList, membersOf}
 use Rattle.definition.specs.Chains.{headFault, walk, contentOf}
 use Rattle.definition.specs.Parts.{prefix, pieces}
@@ -79,10 +79,6 @@ valueTests s key content = keyTest s key ∷ valueTest s content ∷ []
 abbrev pub chainTests : Settings → View → ℕ → Option (List ℕ) → List ℕ
 chainTests s f h key = slotTest f h ∷ headFault s key 8 (f h) ∷ walk s f (filled f) h .fault ∷ []
 
--- 11 and 12
-abbrev pub roomTests : View → ℕ → ℕ → List ℕ
-roomTests f cap need = freeListTest (freeList f) ∷ roomTest cap (filled f) (membersOf (freeList f)) need ∷ []
-
 -- ---- refused or not
 
 -- the answer and what changes, or, where a test refuses, its number and what was there
@@ -95,38 +91,35 @@ unfoldable pub answerUnless : ℕ → Answer → Answer
 answerUnless zero a = a
 answerUnless (suc n) a = refusal (suc n)
 
--- ---- insert, replace and remove
+-- ---- where a call that writes takes new slots from
 
--- takes its slots in chain order and answers the head's slot
-unfoldable pub insert : Settings → List ℕ → List ℕ → Bool → List ℕ → Answer × List ℕ
-insert s key content mark t =
+-- 01 knows one such place, the table's own free list (`supplyOf`); the calls below are written for any
+pub record Supply : Type 0 where
+  -- from these in order, then from FILLED up
+  pub free : List ℕ
+  -- the tests of the table
+  pub table : List ℕ
+  -- the tests of the free list
+  pub list : List ℕ
+  -- the tests of the room for so many new slots
+  pub room : ℕ → List ℕ
+
+-- the table's own free list, which is walked whole: 1, 2 and 3; 11; 12
+abbrev pub supplyOf : Settings → List ℕ → Supply
+supplyOf s t =
     let f = view (s .size) t in
     let cap = capacity s t in
     let free = membersOf (freeList f) in
-    let ps = pieces s (prefix s key ++ content) in
-    let out : Answer × List ℕ =
-    (at (headD (newSlots [] free (filled f) (length ps)) 0), store (s .size) t (effect s mark (length content) ps [] free (filled f))) in
-    unless (first (tableTests s f cap ++ (valueTests s key content ++ roomTests f cap (length ps)))) t out
+    record {
+      free = free;
+      table = tableTests s f cap;
+      list = freeListTest (freeList f) ∷ [];
+      room = λ need. roomTest cap (filled f) free need ∷ [];
+    }
 
--- uses the old chain's slots in order, takes more if short, frees what is left over; the count is 1 again, key and mark are new
-unfoldable pub replace : Settings → List ℕ → List ℕ → Bool → ℕ → List ℕ → Answer × List ℕ
-replace s key content mark h t =
-    let f = view (s .size) t in
-    let cap = capacity s t in
-    let free = membersOf (freeList f) in
-    let old = walk s f (filled f) h .slots in
-    let ps = pieces s (prefix s key ++ content) in
-    let out : Answer × List ℕ = (accepted, store (s .size) t (effect s mark (length content) ps old free (filled f))) in
-    unless (first (tableTests s f cap ++ (valueTests s key content ++ (chainTests s f h none ++ roomTests f cap (length ps - length old))))) t out
-
--- frees the head first, then each part in order
-unfoldable pub remove : Settings → ℕ → List ℕ → Answer × List ℕ
-remove s h t =
-    let f = view (s .size) t in
-    let free = membersOf (freeList f) in
-    let old = walk s f (filled f) h .slots in
-    let out : Answer × List ℕ = (accepted, store (s .size) t (effect s false 0 [] old free (filled f))) in
-    unless (first (tableTests s f (capacity s t) ++ (chainTests s f h none ++ (freeListTest (freeList f) ∷ [])))) t out
+-- 11 and 12
+abbrev pub roomTests : Supply → ℕ → List ℕ
+roomTests p need = p .list ++ p .room need
 
 -- ---- the count
 
@@ -144,20 +137,89 @@ newCount c (pos zero) = lowered c 0
 newCount c (pos (suc n)) = some (min locked (c + suc n))
 newCount c (negsuc n) = lowered c (suc n)
 
--- a count stored in slot h with these bytes: the slot's front, the new count in its place
+-- a count stored in slot h with these bytes: the slot's body, the new count in its place
 unfoldable pub countStore : Settings → ℕ → List ℕ → ℕ → Store
-countStore s h b c = (h, take (startOverhead s) b ++ bytes countBytes c)
+countStore s h b c = (h, put (startBody s b) (startOverhead s) (bytes countBytes c))
 
-unfoldable pub counted : Settings → ℕ → List ℕ → Option ℕ → Answer × List ℕ
-counted s h t none = (lastReference, t)
-counted s h t (some c) = (count c, store (s .size) t (countStore s h (view (s .size) t h) c ∷ []))
+-- what is answered and stored: the new count, or nothing where nothing is left
+unfoldable pub counted : Settings → ℕ → List ℕ → Option ℕ → Answer × List Store
+counted s h b none = (lastReference, [])
+counted s h b (some c) = (count c, countStore s h b c ∷ [])
 
--- stops at the head: the later parts are not walked
+-- ---- insert, replace, remove and change of the count
+
+-- a call that writes, with its arguments: key, content, mark, slot, step
+pub data Writing : Type 0 where
+  Insert : List ℕ → List ℕ → Bool → Writing
+  Replace : List ℕ → List ℕ → Bool → ℕ → Writing
+  Remove : ℕ → Writing
+  Change : ℤ → ℕ → Writing
+
+-- what such a call comes to: its tests in 01's order; where none refuses, its answer and its stores
+pub record Decision : Type 0 where
+  pub tests : List ℕ
+  pub answer : Answer
+  pub stores : List Store
+
+-- each call, f being the table's slots and p where it takes new ones from
+abbrev pub decide : Settings → Supply → View → Writing → Decision
+-- insert takes its slots in chain order and answers the head's slot
+decide s p f (Insert key content mark) =
+    let ps = pieces s (prefix s key ++ content) in
+    record {
+      tests = p .table ++ (valueTests s key content ++ roomTests p (length ps));
+      answer = at (headD (newSlots [] (p .free) (filled f) (length ps)) 0);
+      stores = effect s mark (length content) ps [] (p .free) (filled f);
+    }
+-- replace uses the old chain's slots in order, takes more if short, frees what is left over; the count is 1 again, key and mark are new
+decide s p f (Replace key content mark h) =
+    let old = walk s f (filled f) h .slots in
+    let ps = pieces s (prefix s key ++ content) in
+    record {
+      tests = p .table ++ (valueTests s key content ++ (chainTests s f h none ++ roomTests p (length ps - length old)));
+      answer = accepted;
+      stores = effect s mark (length content) ps old (p .free) (filled f);
+    }
+-- remove frees the head first, then each part in order
+decide s p f (Remove h) =
+    let old = walk s f (filled f) h .slots in
+    record {
+      tests = p .table ++ (chainTests s f h none ++ p .list);
+      answer = accepted;
+      stores = effect s false 0 [] old (p .free) (filled f);
+    }
+-- change stops at the head: the later parts are not walked
+decide s p f (Change step h) =
+    let out = counted s h (f h) (newCount (countOf s (f h)) step) in
+    record {
+      tests = p .table ++ (uncountedTest s ∷ slotTest f h ∷ headFault s none 8 (f h) ∷ []);
+      answer = out .0;
+      stores = out .1;
+    }
+
+-- what a call comes to on the table t
+abbrev pub decision : Settings → Writing → List ℕ → Decision
+decision s w t = decide s (supplyOf s t) (view (s .size) t) w
+
+-- carried out on it: the stores are laid into the table, unless a test refuses
+abbrev pub carryOut : Settings → Decision → List ℕ → Answer × List ℕ
+carryOut s d t = unless (first (d .tests)) t (d .answer, store (s .size) t (d .stores))
+
+abbrev pub write : Settings → Writing → List ℕ → Answer × List ℕ
+write s w t = carryOut s (decision s w t) t
+
+-- the four by their names
+unfoldable pub insert : Settings → List ℕ → List ℕ → Bool → List ℕ → Answer × List ℕ
+insert s key content mark t = write s (Insert key content mark) t
+
+unfoldable pub replace : Settings → List ℕ → List ℕ → Bool → ℕ → List ℕ → Answer × List ℕ
+replace s key content mark h t = write s (Replace key content mark h) t
+
+unfoldable pub remove : Settings → ℕ → List ℕ → Answer × List ℕ
+remove s h t = write s (Remove h) t
+
 unfoldable pub change : Settings → ℤ → ℕ → List ℕ → Answer × List ℕ
-change s step h t =
-    let f = view (s .size) t in
-    let out = counted s h t (newCount (countOf s (f h)) step) in
-    unless (first (tableTests s f (capacity s t) ++ (uncountedTest s ∷ slotTest f h ∷ headFault s none 8 (f h) ∷ []))) t out
+change s step h t = write s (Change step h) t
 
 -- ---- reading
 

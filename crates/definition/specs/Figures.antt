@@ -10,7 +10,7 @@ use Rattle.definition.specs.declared.Settings.{Settings}
 use Rattle.definition.specs.Numbers.{le, bytes, num, over, put, sameBytes, range}
 use Rattle.definition.specs.Tests.{refuse, first}
 use Rattle.definition.specs.Settings.{countLen, keyLen, prefixLen, headOverhead, startOverhead, badSettings}
-use Rattle.definition.specs.Slots.{view, lastRemoved, filled, marked, isFree, isContinuation, isHead, sizeWord, sizeOf, topBit, totalOf, headLink, linkOf, starts, countOf, keyOf, markOf, partialKey, store}
+use Rattle.definition.specs.Slots.{view, lastRemoved, filled, marked, isFree, isContinuation, isHead, sizeWord, sizeOf, topBit, totalOf, headLink, linkOf, starts, countOf, keyOf, markOf, startBody, partialKey, store}
 use Rattle.definition.specs.FreeList.{push, freeFrom, freeList, membersOf}
 use Rattle.definition.specs.Chains.{unlessRefused, keyDiffers, headFault, lastFault, laterParse, isLast, onward, partsFrom, sizedBody, restBody, bodyOf, contentOf, totalGood, withTotal, walk}
 use Rattle.definition.specs.Parts.{prefix, cutRest, cut, pieces, sizedPart, continuationPart, storedTotal, headPart, freeSlot, restStores, chainStores, freeStores}
@@ -149,7 +149,7 @@ every [] = true
 every (b ∷ bs) = b && every bs
 
 pub figures-hold : every figures ≡ true
-unfolding headD le bytes num over put sameBytes range refuse first countLen keyLen prefixLen headOverhead startOverhead badSettings view lastRemoved filled marked isFree isContinuation isHead sizeWord sizeOf topBit totalOf headLink linkOf starts countOf keyOf markOf partialKey store push freeFrom freeList membersOf unlessRefused keyDiffers headFault lastFault laterParse isLast onward partsFrom sizedBody restBody bodyOf contentOf totalGood withTotal walk prefix cutRest cut pieces sizedPart continuationPart storedTotal headPart freeSlot restStores chainStores freeStores newSlots leftOver freeLeft freeAfter filledAfter headerStore headerStores effect capacity settingsTest bufferTest headerTest keyTest uncountedTest valueTest slotTest freeListTest roomTest unless insert replace remove lowered newCount countStore counted change numbers answers holds whole parts zeros hash small entry64 full bare ins inserted removed thinned again₁ again₂ again₃ m4065 m8142 m8143 four shortened shown five top figures every
+unfolding headD le bytes num over put sameBytes range refuse first countLen keyLen prefixLen headOverhead startOverhead badSettings view lastRemoved filled marked isFree isContinuation isHead sizeWord sizeOf topBit totalOf headLink linkOf starts countOf keyOf markOf startBody partialKey store push freeFrom freeList membersOf unlessRefused keyDiffers headFault lastFault laterParse isLast onward partsFrom sizedBody restBody bodyOf contentOf totalGood withTotal walk prefix cutRest cut pieces sizedPart continuationPart storedTotal headPart freeSlot restStores chainStores freeStores newSlots leftOver freeLeft freeAfter filledAfter headerStore headerStores effect capacity settingsTest bufferTest headerTest keyTest uncountedTest valueTest slotTest freeListTest roomTest unless insert replace remove lowered newCount countStore counted change numbers answers holds whole parts zeros hash small entry64 full bare ins inserted removed thinned again₁ again₂ again₃ m4065 m8142 m8143 four shortened shown five top figures every
 figures-hold = refl
 
 -- ---- the readings that look right and are not
@@ -186,5 +186,5 @@ readings =
     ∷ []
 
 pub readings-hold : every readings ≡ true
-unfolding headD le bytes num over put sameBytes range refuse first countLen keyLen prefixLen headOverhead startOverhead badSettings view lastRemoved filled marked isFree isContinuation isHead sizeWord sizeOf topBit totalOf headLink linkOf starts countOf keyOf markOf partialKey store push freeFrom freeList membersOf unlessRefused keyDiffers headFault lastFault laterParse isLast onward partsFrom sizedBody restBody bodyOf contentOf totalGood withTotal walk prefix cutRest cut pieces sizedPart continuationPart storedTotal headPart freeSlot restStores chainStores freeStores newSlots leftOver freeLeft freeAfter filledAfter headerStore headerStores effect capacity settingsTest bufferTest headerTest keyTest uncountedTest valueTest slotTest freeListTest roomTest unless insert replace remove lowered newCount countStore counted change numbers answers holds whole parts zeros hash small entry64 full bare ins four shortened shown five counting plain spread replaced readings every
+unfolding headD le bytes num over put sameBytes range refuse first countLen keyLen prefixLen headOverhead startOverhead badSettings view lastRemoved filled marked isFree isContinuation isHead sizeWord sizeOf topBit totalOf headLink linkOf starts countOf keyOf markOf startBody partialKey store push freeFrom freeList membersOf unlessRefused keyDiffers headFault lastFault laterParse isLast onward partsFrom sizedBody restBody bodyOf contentOf totalGood withTotal walk prefix cutRest cut pieces sizedPart continuationPart storedTotal headPart freeSlot restStores chainStores freeStores newSlots leftOver freeLeft freeAfter filledAfter headerStore headerStores effect capacity settingsTest bufferTest headerTest keyTest uncountedTest valueTest slotTest freeListTest roomTest unless insert replace remove lowered newCount countStore counted change numbers answers holds whole parts zeros hash small entry64 full bare ins four shortened shown five counting plain spread replaced readings every
 readings-hold = refl

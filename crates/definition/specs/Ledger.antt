@@ -17,7 +17,7 @@ use Rattle.definition.specs.Slots.{partialKey}
 use Rattle.definition.specs.Parts.{prefix, pieces}
 use Rattle.definition.specs.Effect.{newSlots, freeAfter, filledAfter}
 use Rattle.definition.specs.Answers.{Answer, refusal, at, accepted, count, lastReference, found, content, members}
-use Rattle.definition.specs.Calls.{keyTest, checkedKeyTest, uncountedTest, valueTest, roomTest, outputTest, unless, newCount}
+use Rattle.definition.specs.Calls.{keyTest, checkedKeyTest, uncountedTest, valueTest, roomTest, outputTest, unless, newCount, Writing, Insert, Replace, Remove, Change}
 
 pub record Chain : Type 0 where
   pub slots : List ℕ
@@ -34,16 +34,16 @@ pub record Ledger : Type 0 where
 
 -- ---- the calls
 
--- a call with its arguments: keys, contents and marks, slots, the step, the lent output
+-- a call that only looks, with its arguments: the key that it checks, if it checks one, slot, lent output
+pub data Looking : Type 0 where
+  Read : Option (List ℕ) → ℕ → List ℕ → Looking
+  ReadFixed : Option (List ℕ) → ℕ → Looking
+  FindFixed : Option (List ℕ) → ℕ → Looking
+  FreeCount : Looking
+
 pub data Call : Type 0 where
-  Insert : List ℕ → List ℕ → Bool → Call
-  Replace : List ℕ → List ℕ → Bool → ℕ → Call
-  Remove : ℕ → Call
-  Change : ℤ → ℕ → Call
-  Read : Option (List ℕ) → ℕ → List ℕ → Call
-  ReadFixed : Option (List ℕ) → ℕ → Call
-  FindFixed : Option (List ℕ) → ℕ → Call
-  FreeCount : Call
+  Write : Writing → Call
+  Look : Looking → Call
 
 -- what a call leaves: its answer, the table or ledger afterwards, the output afterwards (empty where a call has none)
 pub record Outcome (X : Type 0) : Type 0 where
@@ -106,47 +106,52 @@ ledgerChange L h d (some c) = ledgerCounted L h c (newCount (c .count) d)
 
 -- the head whose chain a call may change: only this chain's slots, and free or unused ones, are written
 unfoldable pub target : Settings → Call → Ledger → ℕ
-target s (Insert k c m) L = headD (newSlots [] (L .free) (L .filled) (length (pieces s (prefix s k ++ c)))) 0
-target s (Replace k c m h) L = h
-target s (Remove h) L = h
-target s (Change d h) L = h
-target s (Read k h out) L = 0
-target s (ReadFixed k h) L = 0
-target s (FindFixed k h) L = 0
-target s FreeCount L = 0
+target s (Write (Insert k c m)) L = headD (newSlots [] (L .free) (L .filled) (length (pieces s (prefix s k ++ c)))) 0
+target s (Write (Replace k c m h)) L = h
+target s (Write (Remove h)) L = h
+target s (Write (Change d h)) L = h
+target s (Look c) L = 0
 
 -- the tests of a read on a ledger
 abbrev pub ledgerReadTests : Settings → Option (List ℕ) → ℕ → Ledger → List ℕ
 ledgerReadTests s k h L = checkedKeyTest s k ∷ chainTest L h ∷ ledgerKeyTest s k (L .chains h) ∷ []
 
 -- the fixed read and its companion on a ledger
-unfoldable pub ledgerLook : Settings → Option (List ℕ) → ℕ → Ledger → Answer × List ℕ
-ledgerLook s k h L = unless (first (refuse 1 (s .multipart) ∷ ledgerReadTests s k h L)) [] (foundIn (L .chains h), contentIn (L .chains h))
+unfoldable pub ledgerFixed : Settings → Option (List ℕ) → ℕ → Ledger → Answer × List ℕ
+ledgerFixed s k h L = unless (first (refuse 1 (s .multipart) ∷ ledgerReadTests s k h L)) [] (foundIn (L .chains h), contentIn (L .chains h))
 
--- a call on a ledger; cap is the table's capacity. 2, 3, 9, 10 and 11 cannot occur, since the table is
+-- a writing call on a ledger; cap is the table's capacity. 2, 3, 9, 10 and 11 cannot occur, since the table is
 -- sound, and 1 only where a multipart table is read as a fixed one
-unfoldable pub ledgerStep : Settings → ℕ → Call → Ledger → Outcome Ledger
-ledgerStep s cap (Insert k c m) L =
+abbrev pub ledgerWrite : Settings → ℕ → Writing → Ledger → Answer × Ledger
+ledgerWrite s cap (Insert k c m) L =
     let n = length (pieces s (prefix s k ++ c)) in
     let new = newSlots [] (L .free) (L .filled) n in
     let out : Answer × Ledger =
     (at (headD new 0), withChain L (headD new 0) (newChain s k c m new) (freeAfter [] (L .free) n) (filledAfter [] (L .free) (L .filled) n)) in
-    wrote (unless (first (keyTest s k ∷ valueTest s c ∷ roomTest cap (L .filled) (L .free) n ∷ [])) L out)
-ledgerStep s cap (Replace k c m h) L =
+    unless (first (keyTest s k ∷ valueTest s c ∷ roomTest cap (L .filled) (L .free) n ∷ [])) L out
+ledgerWrite s cap (Replace k c m h) L =
     let n = length (pieces s (prefix s k ++ c)) in
     let old = slotsIn (L .chains h) in
     let new = newSlots old (L .free) (L .filled) n in
     let out : Answer × Ledger =
     (accepted, withChain L h (newChain s k c m new) (freeAfter old (L .free) n) (filledAfter old (L .free) (L .filled) n)) in
-    wrote (unless (first (keyTest s k ∷ valueTest s c ∷ chainTest L h ∷ roomTest cap (L .filled) (L .free) (n - length old) ∷ [])) L out)
-ledgerStep s cap (Remove h) L =
+    unless (first (keyTest s k ∷ valueTest s c ∷ chainTest L h ∷ roomTest cap (L .filled) (L .free) (n - length old) ∷ [])) L out
+ledgerWrite s cap (Remove h) L =
     let old = slotsIn (L .chains h) in
     let out : Answer × Ledger = (accepted, withChain L h none (freeAfter old (L .free) 0) (filledAfter old (L .free) (L .filled) 0)) in
-    wrote (unless (chainTest L h) L out)
-ledgerStep s cap (Change d h) L = wrote (unless (first (uncountedTest s ∷ chainTest L h ∷ [])) L (ledgerChange L h d (L .chains h)))
-ledgerStep s cap (Read k h out) L =
+    unless (chainTest L h) L out
+ledgerWrite s cap (Change d h) L = unless (first (uncountedTest s ∷ chainTest L h ∷ [])) L (ledgerChange L h d (L .chains h))
+
+-- a looking call on a ledger: its answer, and the output afterwards
+abbrev pub ledgerLook : Settings → Looking → Ledger → Answer × List ℕ
+ledgerLook s (Read k h out) L =
     let answer : Answer × List ℕ = (foundIn (L .chains h), over (contentIn (L .chains h)) out) in
-    told L (unless (first (ledgerReadTests s k h L ++ (outputTest (contentIn (L .chains h)) out ∷ []))) out answer)
-ledgerStep s cap (ReadFixed k h) L = told L (content (ledgerLook s k h L .1), [])
-ledgerStep s cap (FindFixed k h) L = told L (ledgerLook s k h L .0, [])
-ledgerStep s cap FreeCount L = told L (members (length (L .free)), [])
+    unless (first (ledgerReadTests s k h L ++ (outputTest (contentIn (L .chains h)) out ∷ []))) out answer
+ledgerLook s (ReadFixed k h) L = (content (ledgerFixed s k h L .1), [])
+ledgerLook s (FindFixed k h) L = (ledgerFixed s k h L .0, [])
+ledgerLook s FreeCount L = (members (length (L .free)), [])
+
+-- a call on a ledger
+unfoldable pub ledgerStep : Settings → ℕ → Call → Ledger → Outcome Ledger
+ledgerStep s cap (Write w) L = wrote (ledgerWrite s cap w L)
+ledgerStep s cap (Look c) L = told L (ledgerLook s c L)

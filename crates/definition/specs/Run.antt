@@ -6,10 +6,10 @@ use Rattle.definition.specs.declared.Settings.{Settings}
 use Rattle.definition.specs.Slots.{View, view, filled, keyOf, markOf, countOf}
 use Rattle.definition.specs.FreeList.{freeList, membersOf}
 use Rattle.definition.specs.Chains.{contentOf}
-use Rattle.definition.specs.Answers.{content}
-use Rattle.definition.specs.Calls.{insert, replace, remove, change, read, readFixed, findFixed, freeCount}
+use Rattle.definition.specs.Answers.{Answer, content}
+use Rattle.definition.specs.Calls.{write, read, readFixed, findFixed, freeCount}
 use Rattle.definition.specs.Sound.{chainAt}
-use Rattle.definition.specs.Ledger.{Chain, Ledger, Call, Insert, Replace, Remove, Change, Read, ReadFixed, FindFixed, FreeCount, Outcome, wrote, told}
+use Rattle.definition.specs.Ledger.{Chain, Ledger, Looking, Read, ReadFixed, FindFixed, FreeCount, Call, Write, Look, Outcome, wrote, told}
 
 -- the chain at h on these slots, none where no chain starts
 unfoldable pub chainOn : Settings → View → ℕ → List ℕ → Option Chain
@@ -24,13 +24,14 @@ ledgerView s f = record { chains = λ h. chainOn s f h (chainAt s f h); free = m
 abbrev pub ledgerOf : Settings → List ℕ → Ledger
 ledgerOf s t = ledgerView s (view (s .size) t)
 
+-- a looking call on a table: its answer, and the output afterwards
+abbrev pub look : Settings → Looking → List ℕ → Answer × List ℕ
+look s (Read k h out) t = read s k h t out
+look s (ReadFixed k h) t = (content (readFixed s k h t), [])
+look s (FindFixed k h) t = (findFixed s k h t, [])
+look s FreeCount t = (freeCount s t, [])
+
 -- a call on a table
 unfoldable pub run : Settings → Call → List ℕ → Outcome (List ℕ)
-run s (Insert k c m) t = wrote (insert s k c m t)
-run s (Replace k c m h) t = wrote (replace s k c m h t)
-run s (Remove h) t = wrote (remove s h t)
-run s (Change d h) t = wrote (change s d h t)
-run s (Read k h out) t = told t (read s k h t out)
-run s (ReadFixed k h) t = told t (content (readFixed s k h t), [])
-run s (FindFixed k h) t = told t (findFixed s k h t, [])
-run s FreeCount t = told t (freeCount s t, [])
+run s (Write w) t = wrote (write s w t)
+run s (Look c) t = told t (look s c t)

@@ -112,6 +112,10 @@ keyOf s b = take (keyLen s) (drop (startOverhead s + countLen s) b)
 unfoldable pub markOf : Settings → List ℕ → Bool
 markOf s b = cond (s .multipart) (marked compressedMark b) (topBit b)
 
+-- the body of such a slot: all of a head, of a plain slot the size word and as many bytes as it counts
+unfoldable pub startBody : Settings → List ℕ → List ℕ
+startBody s b = cond (s .multipart) b (take (wordBytes + sizeOf b) b)
+
 -- the partial key of a 32-byte hash: its bytes 6 to 31
 unfoldable pub partialKey : List ℕ → List ℕ
 partialKey key = take keyBytes (drop hashSkip key)

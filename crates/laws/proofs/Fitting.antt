@@ -77,6 +77,10 @@ abbrev pub CutOrNone : Settings → List (List ℕ) → Type 0
 CutOrNone s [] = Unit {0}
 CutOrNone s (p ∷ ps) = Cut s (p ∷ ps)
 
+pub cut-any : (s : Settings) (ps : List (List ℕ)) → Cut s ps → CutOrNone s ps
+cut-any s [] c = absurd c
+cut-any s (p ∷ ps) c = c
+
 fits-new : (s : Settings) (L : ℕ) (mark : Bool) (total : ℕ) (new : List ℕ) (ps : List (List ℕ)) → Sizes s → CutOrNone s ps → length new ≡ length ps
     → Inside (s .size) L new → Fits (s .size) L (chainStores s mark total new ps)
 unfolding chainStores

@@ -6,6 +6,7 @@ pub mod Lists
 pub mod Bytes
 pub mod Puts
 pub mod Views
+pub mod Untouched
 pub mod Counting
 pub mod Stores
 pub mod FreeLists

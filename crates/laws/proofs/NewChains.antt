@@ -27,8 +27,8 @@ use Rattle.laws.proofs.Marks.{small-no-mark, starts-multi, starts-fixed
 use Rattle.laws.proofs.Turns.{last-fits}
 use Rattle.laws.proofs.Chains.{RestAt, TailAt, ChainAt}
 use Rattle.laws.proofs.Sizes.{Sizes, length-prefix, fixed-fits, multi-fits}
-use Rattle.laws.proofs.Overheads.{start-fixed, start-multi}
-use Rattle.laws.proofs.Parts.{join, Shaped, cutRest-joins, pieces-fixed, pieces-multi, continuation-mark, continuation-link, continuation-body, sized-size, sized-top, sized-body, sized-front, overhead-bounds, head-mark, head-compressed, head-total, head-link, head-body, prefix-count, prefix-key}
+use Rattle.laws.proofs.Overheads.{overhead-bounds, start-fixed, start-multi}
+use Rattle.laws.proofs.Parts.{join, Shaped, cutRest-joins, pieces-fixed, pieces-multi, continuation-mark, continuation-link, continuation-body, sized-size, sized-top, sized-body, sized-front, head-mark, head-compressed, head-total, head-link, head-body, prefix-count, prefix-key}
 
 -- ---- the pieces of a chain
 

@@ -134,11 +134,6 @@ sized-front m p old = refl
 
 -- ---- heads
 
--- a head's overhead has at least its mark and link, and at most its total besides
-pub overhead-bounds : (s : Settings) → (linkOverhead ≤ headOverhead s) × (headOverhead s ≤ linkOverhead + totalBytes)
-unfolding headOverhead
-overhead-bounds s = (omega arith, omega arith)
-
 pub length-head : (s : Settings) (m : Bool) (total n : ℕ) (p : List ℕ) → length (headPart s m total n p) ≡ headOverhead s + length p
 unfolding headOverhead headPart storedTotal bytes
 length-head s true total n p = omega arith

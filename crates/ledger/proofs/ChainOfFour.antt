@@ -15,9 +15,9 @@ use Rattle.definition.specs.FreeList.{push, freeFrom, freeList, membersOf}
 use Rattle.definition.specs.Chains.{unlessRefused, keyDiffers, headFault, lastFault, laterParse, isLast, onward, partsFrom, sizedBody, restBody, bodyOf, contentOf, totalGood, withTotal, walk}
 use Rattle.definition.specs.Parts.{prefix, cutRest, cut, pieces, sizedPart, continuationPart, storedTotal, headPart, freeSlot, restStores, chainStores, freeStores}
 use Rattle.definition.specs.Effect.{newSlots, leftOver, freeLeft, freeAfter, filledAfter, headerStore, headerStores, effect}
-use Rattle.definition.specs.Calls.{capacity, settingsTest, bufferTest, headerTest, keyTest, valueTest, slotTest, freeListTest, roomTest, unless, insert, replace}
+use Rattle.definition.specs.Calls.{capacity, settingsTest, bufferTest, headerTest, keyTest, valueTest, slotTest, freeListTest, roomTest, unless, Insert, Replace}
 use Rattle.definition.specs.Sound.{startsAt, chainAt, Sound}
-use Rattle.definition.specs.Ledger.{Insert, Replace}
+use Rattle.definition.specs.Ledger.{Write}
 use Rattle.definition.specs.Run.{run}
 use Rattle.ledger.proofs.OneCall.{call-agrees}
 use Rattle.ledger.proofs.Fresh.{fresh-sound}
@@ -31,10 +31,10 @@ zeros = replicate 20480 0
 
 -- a content of four parts is inserted, then replaced by one of two
 unfoldable pub four : List ℕ
-four = run bare (Insert [] (replicate 12259 7) false) zeros .after
+four = run bare (Write (Insert [] (replicate 12259 7) false)) zeros .after
 
 unfoldable pub two : List ℕ
-two = run bare (Replace [] (replicate 5000 8) true 1) four .after
+two = run bare (Write (Replace [] (replicate 5000 8) true 1)) four .after
 
 zeros-long : length zeros ≡ 20480
 unfolding zeros
@@ -49,17 +49,17 @@ zeros-sound = fresh-sound bare zeros refl (omega arith) front
 
 pub four-sound : Sound bare four
 unfolding four
-four-sound = call-agrees bare (Insert [] (replicate 12259 7) false) zeros zeros-sound (rw zeros-long (omega arith)) .sound
+four-sound = call-agrees bare (Write (Insert [] (replicate 12259 7) false)) zeros zeros-sound (rw zeros-long (omega arith)) .sound
 
 pub two-sound : Sound bare two
 unfolding two four
 two-sound =
-    let a = call-agrees bare (Insert [] (replicate 12259 7) false) zeros zeros-sound (rw zeros-long (omega arith)) in
+    let a = call-agrees bare (Write (Insert [] (replicate 12259 7) false)) zeros zeros-sound (rw zeros-long (omega arith)) in
     let long : length four ≡ 20480 = a .long ∙ zeros-long in
-    call-agrees bare (Replace [] (replicate 5000 8) true 1) four four-sound (rw long (omega arith)) .sound
+    call-agrees bare (Write (Replace [] (replicate 5000 8) true 1)) four four-sound (rw long (omega arith)) .sound
 
 -- the chains, and the free list after the replacement
 pub figure-chains : (chainAt bare (view (bare .size) four) 1 ≡ 1 ∷ 2 ∷ 3 ∷ 4 ∷ [])
     × (chainAt bare (view (bare .size) two) 1 ≡ 1 ∷ 2 ∷ []) × (membersOf (freeList (view (bare .size) two)) ≡ 4 ∷ 3 ∷ [])
-unfolding bare zeros four two chainAt startsAt run headD le bytes num over put sameBytes range refuse first countLen keyLen prefixLen headOverhead startOverhead badSettings view lastRemoved filled marked isFree isContinuation isHead sizeWord sizeOf topBit totalOf headLink linkOf starts countOf keyOf markOf partialKey store push freeFrom freeList membersOf unlessRefused keyDiffers headFault lastFault laterParse isLast onward partsFrom sizedBody restBody bodyOf contentOf totalGood withTotal walk prefix cutRest cut pieces sizedPart continuationPart storedTotal headPart freeSlot restStores chainStores freeStores newSlots leftOver freeLeft freeAfter filledAfter headerStore headerStores effect capacity settingsTest bufferTest headerTest keyTest valueTest slotTest freeListTest roomTest unless insert replace
+unfolding bare zeros four two chainAt startsAt run headD le bytes num over put sameBytes range refuse first countLen keyLen prefixLen headOverhead startOverhead badSettings view lastRemoved filled marked isFree isContinuation isHead sizeWord sizeOf topBit totalOf headLink linkOf starts countOf keyOf markOf partialKey store push freeFrom freeList membersOf unlessRefused keyDiffers headFault lastFault laterParse isLast onward partsFrom sizedBody restBody bodyOf contentOf totalGood withTotal walk prefix cutRest cut pieces sizedPart continuationPart storedTotal headPart freeSlot restStores chainStores freeStores newSlots leftOver freeLeft freeAfter filledAfter headerStore headerStores effect capacity settingsTest bufferTest headerTest keyTest valueTest slotTest freeListTest roomTest unless
 figure-chains = (refl, refl, refl)

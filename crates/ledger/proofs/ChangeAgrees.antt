@@ -5,40 +5,39 @@ use mathlib.Core.Logic.{_≢_}
 use Prim.Native.Nat.{ℕ, zero, suc, _+_, _-_, _^_, _≤_, _<_, min}
 use native.Mathlib.Omega.{arith}
 use mathlib.Core.Bool.{true, cond, _&&_, not}
-use mathlib.Core.List.{List, [], _∷_, _++_}
+use mathlib.Core.List.{List, [], _∷_}
 use mathlib.Core.Option.{Option, none, some}
 use lib.IntN.{ℤ, pos, negsuc}
-use lib.ListN.{length, take, length-append, length-take}
+use lib.ListN.{length}
 use lib.Dec.{eqb, leb, ltb}
 use borrow.Author.Tests.{eqb-false, leb-false, not-false}
 use Rattle.definition.specs.declared.Settings.{Settings}
-use Rattle.definition.specs.Numbers.{bytes}
 use Rattle.definition.specs.Tests.{refuse}
 use Rattle.definition.specs.Settings.{countBytes, prefixLen, startOverhead}
-use Rattle.definition.specs.Slots.{View, view, sizeOf, lastRemoved, filled, starts, countOf, keyOf, markOf}
+use Rattle.definition.specs.Slots.{View, view, sizeOf, lastRemoved, filled, starts, countOf, keyOf, markOf, store}
 use Rattle.definition.specs.FreeList.{freeList, membersOf}
 use Rattle.definition.specs.Chains.{headFault, contentOf}
-use Rattle.definition.specs.Answers.{count}
-use Rattle.definition.specs.Calls.{capacity, uncountedTest, tableTests, lowered, newCount, countStore, counted, change}
+use Rattle.definition.specs.Answers.{Answer, count}
+use Rattle.definition.specs.Calls.{capacity, uncountedTest, tableTests, lowered, newCount, countStore, counted, Change, change}
 use Rattle.definition.specs.Sound.{hit, occ, chainAt, SoundView, Sound}
-use Rattle.definition.specs.Ledger.{Chain, Change, wrote, chainTest, recount, ledgerCounted, ledgerChange, ledgerStep}
+use Rattle.definition.specs.Ledger.{Chain, Write, wrote, chainTest, recount, ledgerCounted, ledgerChange, ledgerStep}
 use Rattle.definition.specs.Run.{chainOn, ledgerView, ledgerOf}
 use Rattle.laws.proofs.Conditions.{cond-yes, cond-no, by-order, which, Which, isYes, isNo}
 use Rattle.laws.proofs.Tests.{passed, first-pass, first-cons, first-past}
-use Rattle.laws.proofs.Bytes.{length-bytes}
 use Rattle.laws.proofs.Views.{upd, updAll, upd-same, upd-other}
 use Rattle.laws.proofs.Counting.{hit-same}
 use Rattle.laws.proofs.FreeLists.{free-frame}
 use Rattle.laws.proofs.Chains.{ChainAt, chain-head, Same, chain-frame}
-use Rattle.laws.proofs.Sizes.{Sizes, slot-inside, slot-whole}
-use Rattle.laws.proofs.Overheads.{start-fixed, start-multi}
+use Rattle.laws.proofs.Sizes.{slot-inside, slot-whole}
+use Rattle.laws.proofs.Overheads.{count-inside}
+use Rattle.laws.proofs.Counts.{count-over, count-long}
 use Rattle.ledger.proofs.Invariant.{Started, Parted, owned-once, chain-counted, chains-apart, setAt, setAt-same, setAt-other}
 use Rattle.ledger.proofs.Effects.{header-same}
 use Rattle.ledger.proofs.SoundTables.{sound-tests, sound-open, sound-sizes, sound-last, sound-parted, parted-freeList, parted-chainAt, parted-sound}
 use Rattle.ledger.proofs.Rewritten.{Rewritten}
 use Rattle.ledger.proofs.Agrees.{Agrees, agree-unless, agree-stores, ledger-after}
 use Rattle.ledger.proofs.LedgerTests.{head-tests, chain-there}
-use Rattle.ledger.proofs.Recount.{recounted, counted-prefix, recount-mark, recount-key, recount-count, recount-content, recount-chain}
+use Rattle.ledger.proofs.Recount.{recounted, recount-mark, recount-key, recount-count, recount-content, recount-chain}
 
 -- ---- the new count
 
@@ -160,53 +159,50 @@ module _ (s : Settings) (f g : View) (cap h c : ℕ) (k : SoundView s f cap) (d 
 
 -- ---- the call
 
--- the count lies within its slot
-pub count-inside : (s : Settings) → Sizes s → s .counted ≡ true → startOverhead s + countBytes ≤ s .size
-count-inside s z d = go (which (s .multipart))
-  where
-    go : Which (s .multipart) → startOverhead s + countBytes ≤ s .size
-    go (isYes m) = omega (arith, start-multi s m, z .roomy m, counted-prefix s d)
-    go (isNo m) = omega (arith, start-fixed s m, z .least)
-
 module _ (s : Settings) (t : List ℕ) (h : ℕ) (k : Sound s t) (d : s .counted ≡ true) where
+  -- the answer and the table where the new count is o
+  abbrev stepped : Option ℕ → Answer × List ℕ
+  stepped o = let out = counted s h (view (s .size) t h) o in (out .0, store (s .size) t (out .1))
+
   stored-agrees : (n x : ℕ) (l : List ℕ) → 0 < n → n < 256 ^ countBytes → chainAt s (view (s .size) t) h ≡ x ∷ l
       → ChainAt s (view (s .size) t) (filled (view (s .size) t)) h (x ∷ l)
-      → Agrees s t h (wrote (counted s h t (some n))) (wrote (ledgerCounted (ledgerOf s t) h (chainOf s (view (s .size) t) h (x ∷ l)) (some n)))
-  unfolding counted countStore ledgerCounted ledgerView recounted updAll
+      → Agrees s t h (wrote (stepped (some n))) (wrote (ledgerCounted (ledgerOf s t) h (chainOf s (view (s .size) t) h (x ∷ l)) (some n)))
+  unfolding countStore counted ledgerCounted ledgerView recounted updAll
   stored-agrees n x l p q e c =
       let f : View = view (s .size) t in
       let cap : ℕ = capacity s t in
       let below : h < cap = omega (arith, c .2, sound-open s f cap k .fits) in
       let inside : startOverhead s + countBytes ≤ s .size = count-inside s (sound-sizes s f cap k) d in
       let len : startOverhead s + countBytes ≤ length (f h) = rw (slot-whole s t h below) inside in
-      let bs : List ℕ = take (startOverhead s) (f h) ++ bytes countBytes n in
-      let long : length bs ≤ s .size = simp (length-append, length-take, length-bytes) (omega arith) in
+      let bs : List ℕ = countStore s h (f h) n .1 in
+      let long : length bs ≤ s .size = count-long s h (f h) n (s .size) inside (omega arith) (omega (arith, slot-whole s t h below)) in
+      let gh : upd f h bs h ≡ recounted (startOverhead s) n (f h) = upd-same f h bs ∙ count-over s h (f h) n (omega arith) in
       let ch : ChainAt s f (filled f) h (chainAt s f h) = rw e c in
       let stays : (i : ℕ) → i ≢ h → upd f h bs i ≡ f i = λ i ne. upd-other f h i bs ne in
       let r : Rewritten s f (upd f h bs) cap h (chainAt s f h) (membersOf (freeList f)) (filled f) =
-      recount-rewritten s f (upd f h bs) cap h n k d p q ch len (upd-same f h bs) stays in
+      recount-rewritten s f (upd f h bs) cap h n k d p q ch len gh stays in
       agree-stores s t h ((h, bs) ∷ []) (count n) _ (long, slot-inside s t h below, tt) (r .sound)
       (ledger-after s f (upd f h bs) cap h (chainAt s f h) (membersOf (freeList f)) (filled f) _ k r
-      (ap (chainOn s (upd f h bs) h) e ∙ recount-on s f (upd f h bs) cap h n k d p q ch len (upd-same f h bs) stays x l e (c .0)))
+      (ap (chainOn s (upd f h bs) h) e ∙ recount-on s f (upd f h bs) cap h n k d p q ch len gh stays x l e (c .0)))
       (r .othersStay)
 
   counted-agrees : (x : ℕ) (l : List ℕ) (o : Option ℕ) (step : ℤ) → newCount (countOf s (view (s .size) t h)) step ≡ o
       → chainAt s (view (s .size) t) h ≡ x ∷ l → ChainAt s (view (s .size) t) (filled (view (s .size) t)) h (x ∷ l)
-      → Agrees s t h (wrote (counted s h t o)) (wrote (ledgerCounted (ledgerOf s t) h (chainOf s (view (s .size) t) h (x ∷ l)) o))
-  unfolding counted ledgerCounted
+      → Agrees s t h (wrote (stepped o)) (wrote (ledgerCounted (ledgerOf s t) h (chainOf s (view (s .size) t) h (x ∷ l)) o))
+  unfolding store counted ledgerCounted
   counted-agrees x l none step e ce c = record { sound = k; long = refl; answers = refl; ledgers = refl; outputs = refl; keeps = λ j ne i m. refl }
   counted-agrees x l (some n) step e ce c =
       let b = count-fits (countOf s (view (s .size) t h)) step n (head-count s (view (s .size) t h) (c .3)) e in
       stored-agrees n x l (b .0) (b .1) ce c
 
   step-agrees : (l : List ℕ) (step : ℤ) → chainAt s (view (s .size) t) h ≡ l → ChainAt s (view (s .size) t) (filled (view (s .size) t)) h l
-      → Agrees s t h (wrote (counted s h t (newCount (countOf s (view (s .size) t h)) step))) (wrote (ledgerChange (ledgerOf s t) h step (chainOn s (view (s .size) t) h l)))
+      → Agrees s t h (wrote (stepped (newCount (countOf s (view (s .size) t h)) step))) (wrote (ledgerChange (ledgerOf s t) h step (chainOn s (view (s .size) t) h l)))
   unfolding ledgerChange chainOn
   step-agrees [] step e c = absurd c
   step-agrees (x ∷ l) step e c = counted-agrees x l (newCount (countOf s (view (s .size) t h)) step) step refl e c
 
 pub change-agrees : (s : Settings) (t : List ℕ) (step : ℤ) (h : ℕ) → Sound s t
-    → Agrees s t h (wrote (change s step h t)) (ledgerStep s (capacity s t) (Change step h) (ledgerOf s t))
+    → Agrees s t h (wrote (change s step h t)) (ledgerStep s (capacity s t) (Write (Change step h)) (ledgerOf s t))
 unfolding change ledgerStep ledgerView uncountedTest
 change-agrees s t step h k =
     let f : View = view (s .size) t in

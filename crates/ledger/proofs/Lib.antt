@@ -13,6 +13,7 @@ pub mod Recount
 pub mod ChangeAgrees
 pub mod OneCall
 pub mod Sequences
+pub mod Laid
 pub mod Frame
 pub mod Refused
 pub mod Numbers

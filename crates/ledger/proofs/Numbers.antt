@@ -7,7 +7,6 @@ use native.Mathlib.Omega.{arith}
 use mathlib.Core.Bool.{Bool, true, false, cond}
 use mathlib.Core.List.{List, [], _∷_, _++_}
 use mathlib.Core.Option.{Option, none, some}
-use lib.IntN.{ℤ}
 use lib.ListN.{length}
 use Rattle.definition.specs.declared.Settings.{Settings}
 use Rattle.definition.specs.Tests.{refuse, first}
@@ -15,9 +14,9 @@ use Rattle.definition.specs.Slots.{View, view, filled, markOf, headLink, linkOf
 use Rattle.definition.specs.FreeList.{freeList}
 use Rattle.definition.specs.Chains.{Walk, whole, headFault, lastFault, partsFrom, withTotal, walk}
 use Rattle.definition.specs.Answers.{Answer, refusal, found}
-use Rattle.definition.specs.Calls.{capacity, settingsTest, bufferTest, headerTest, keyTest, checkedKeyTest, uncountedTest, valueTest, slotTest, freeListTest, roomTest, outputTest, tableTests, valueTests, chainTests, unless, insert, replace, remove, change, read, fixedTests, lookFixed, findFixed, freeCount}
+use Rattle.definition.specs.Calls.{capacity, settingsTest, bufferTest, headerTest, keyTest, checkedKeyTest, uncountedTest, valueTest, slotTest, freeListTest, roomTest, outputTest, tableTests, valueTests, chainTests, unless, Writing, Insert, Replace, Remove, Change, decision, read, fixedTests, lookFixed, findFixed, freeCount}
 use Rattle.definition.specs.Sound.{hit, occ}
-use Rattle.definition.specs.Ledger.{Call, Insert, Replace, Remove, Change, Read, ReadFixed, FindFixed, FreeCount}
+use Rattle.definition.specs.Ledger.{Read, ReadFixed, FindFixed, FreeCount, Call, Write, Look}
 use Rattle.definition.specs.Run.{run}
 use Rattle.laws.proofs.Conditions.{which, Which, isYes, isNo}
 use Rattle.laws.proofs.Tests.{refuse-yes, passed, first-stop, first-pass, first-both}
@@ -25,7 +24,7 @@ use Rattle.laws.proofs.Counting.{hit-other}
 use Rattle.laws.proofs.Chains.{ChainAt}
 use Rattle.laws.proofs.Turns.{part-limit, Turn, broken, judged, goesOn, ends, turn}
 use Rattle.laws.proofs.Passed.{walk-fixed, chain-passed}
-use Rattle.ledger.proofs.Refused.{teller, Granted, unless-refused, answer-alone, at-granted, accepted-granted, counted-granted, found-granted, members-granted}
+use Rattle.ledger.proofs.Refused.{teller, Granted, unless-refused, answer-alone, decided-granted, found-granted, members-granted}
 
 -- ---- whatever holds of 0 and of the numbers of the tests holds of the first refusal
 
@@ -102,14 +101,14 @@ module _ (P : ℕ → Type 0) (zero-is : P 0) where
 
 -- by 01's table: what each call uses, walks and needs
 unfoldable pub numbersOf : Call → List ℕ
-numbersOf (Insert k c m) = 1 ∷ 2 ∷ 3 ∷ 4 ∷ 6 ∷ 11 ∷ 12 ∷ []
-numbersOf (Replace k c m h) = 1 ∷ 2 ∷ 3 ∷ 4 ∷ 6 ∷ 7 ∷ 8 ∷ 9 ∷ 10 ∷ 11 ∷ 12 ∷ []
-numbersOf (Remove h) = 1 ∷ 2 ∷ 3 ∷ 7 ∷ 8 ∷ 9 ∷ 10 ∷ 11 ∷ []
-numbersOf (Change d h) = 1 ∷ 2 ∷ 3 ∷ 5 ∷ 7 ∷ 8 ∷ 9 ∷ []
-numbersOf (Read k h out) = 1 ∷ 2 ∷ 3 ∷ 4 ∷ 7 ∷ 8 ∷ 9 ∷ 10 ∷ 13 ∷ []
-numbersOf (ReadFixed k h) = 1 ∷ 2 ∷ 3 ∷ 4 ∷ 7 ∷ 8 ∷ 9 ∷ []
-numbersOf (FindFixed k h) = 1 ∷ 2 ∷ 3 ∷ 4 ∷ 7 ∷ 8 ∷ 9 ∷ []
-numbersOf FreeCount = 1 ∷ 2 ∷ 3 ∷ 11 ∷ []
+numbersOf (Write (Insert k c m)) = 1 ∷ 2 ∷ 3 ∷ 4 ∷ 6 ∷ 11 ∷ 12 ∷ []
+numbersOf (Write (Replace k c m h)) = 1 ∷ 2 ∷ 3 ∷ 4 ∷ 6 ∷ 7 ∷ 8 ∷ 9 ∷ 10 ∷ 11 ∷ 12 ∷ []
+numbersOf (Write (Remove h)) = 1 ∷ 2 ∷ 3 ∷ 7 ∷ 8 ∷ 9 ∷ 10 ∷ 11 ∷ []
+numbersOf (Write (Change d h)) = 1 ∷ 2 ∷ 3 ∷ 5 ∷ 7 ∷ 8 ∷ 9 ∷ []
+numbersOf (Look (Read k h out)) = 1 ∷ 2 ∷ 3 ∷ 4 ∷ 7 ∷ 8 ∷ 9 ∷ 10 ∷ 13 ∷ []
+numbersOf (Look (ReadFixed k h)) = 1 ∷ 2 ∷ 3 ∷ 4 ∷ 7 ∷ 8 ∷ 9 ∷ []
+numbersOf (Look (FindFixed k h)) = 1 ∷ 2 ∷ 3 ∷ 4 ∷ 7 ∷ 8 ∷ 9 ∷ []
+numbersOf (Look FreeCount) = 1 ∷ 2 ∷ 3 ∷ 11 ∷ []
 
 -- 0, or one of these
 abbrev Among : List ℕ → ℕ → Type 0
@@ -122,68 +121,57 @@ among l m old out n g e a =
     let b : 0 < occ n (0 ∷ l) = rw (r .1) at a in
     omega (arith, hit-other n 0 (omega (arith, r .2)))
 
-module _ (s : Settings) (t : List ℕ) (n : ℕ) where
-  insert-among : (k c : List ℕ) (m : Bool) → insert s k c m t .0 ≡ refusal n → 0 < occ n (numbersOf (Insert k c m))
-  unfolding insert numbersOf roomTest occ hit
-  insert-among k c m e =
+-- each test of a writing call
+module _ (s : Settings) (t : List ℕ) where
+  writes-among : (w : Writing) → Each (Among (numbersOf (Write w))) (decision s w t .tests)
+  unfolding numbersOf uncountedTest roomTest occ hit
+  writes-among (Insert k c m) =
       let f : View = view (s .size) t in
-      let P : ℕ → Type 0 = Among (numbersOf (Insert k c m)) in
+      let P : ℕ → Type 0 = Among (numbersOf (Write (Insert k c m))) in
       let z : P 0 = omega arith in
-      among (numbersOf (Insert k c m)) _ t _ n (at-granted _) e
-      (first-is P z _ (table-then P z s f (capacity s t) _ (omega arith) (omega arith) (omega arith) (value-then P z s k c _ (omega arith) (omega arith)
-      (also (free-is P z (freeList f) (omega arith)) (also (refuse-is P z 12 _ (omega arith)) end)))))
-
-  replace-among : (k c : List ℕ) (m : Bool) (h : ℕ) → replace s k c m h t .0 ≡ refusal n → 0 < occ n (numbersOf (Replace k c m h))
-  unfolding replace numbersOf roomTest occ hit
-  replace-among k c m h e =
+      table-then P z s f (capacity s t) _ (omega arith) (omega arith) (omega arith) (value-then P z s k c _ (omega arith) (omega arith)
+      (also (free-is P z (freeList f) (omega arith)) (also (refuse-is P z 12 _ (omega arith)) end)))
+  writes-among (Replace k c m h) =
       let f : View = view (s .size) t in
-      let P : ℕ → Type 0 = Among (numbersOf (Replace k c m h)) in
+      let P : ℕ → Type 0 = Among (numbersOf (Write (Replace k c m h))) in
       let z : P 0 = omega arith in
-      among (numbersOf (Replace k c m h)) _ t _ n accepted-granted e
-      (first-is P z _ (table-then P z s f (capacity s t) _ (omega arith) (omega arith) (omega arith) (value-then P z s k c _ (omega arith) (omega arith)
+      table-then P z s f (capacity s t) _ (omega arith) (omega arith) (omega arith) (value-then P z s k c _ (omega arith) (omega arith)
       (chain-then P z s f h none _ (omega arith) (omega arith) (omega arith) (omega arith)
-      (also (free-is P z (freeList f) (omega arith)) (also (refuse-is P z 12 _ (omega arith)) end))))))
-
-  remove-among : (h : ℕ) → remove s h t .0 ≡ refusal n → 0 < occ n (numbersOf (Remove h))
-  unfolding remove numbersOf occ hit
-  remove-among h e =
+      (also (free-is P z (freeList f) (omega arith)) (also (refuse-is P z 12 _ (omega arith)) end))))
+  writes-among (Remove h) =
       let f : View = view (s .size) t in
-      let P : ℕ → Type 0 = Among (numbersOf (Remove h)) in
+      let P : ℕ → Type 0 = Among (numbersOf (Write (Remove h))) in
       let z : P 0 = omega arith in
-      among (numbersOf (Remove h)) _ t _ n accepted-granted e
-      (first-is P z _ (table-then P z s f (capacity s t) _ (omega arith) (omega arith) (omega arith)
-      (chain-then P z s f h none _ (omega arith) (omega arith) (omega arith) (omega arith) (also (free-is P z (freeList f) (omega arith)) end))))
-
-  change-among : (d : ℤ) (h : ℕ) → change s d h t .0 ≡ refusal n → 0 < occ n (numbersOf (Change d h))
-  unfolding change numbersOf uncountedTest occ hit
-  change-among d h e =
+      table-then P z s f (capacity s t) _ (omega arith) (omega arith) (omega arith)
+      (chain-then P z s f h none _ (omega arith) (omega arith) (omega arith) (omega arith) (also (free-is P z (freeList f) (omega arith)) end))
+  writes-among (Change d h) =
       let f : View = view (s .size) t in
-      let P : ℕ → Type 0 = Among (numbersOf (Change d h)) in
+      let P : ℕ → Type 0 = Among (numbersOf (Write (Change d h))) in
       let z : P 0 = omega arith in
-      among (numbersOf (Change d h)) _ t _ n (counted-granted s h t _) e
-      (first-is P z _ (table-then P z s f (capacity s t) _ (omega arith) (omega arith) (omega arith)
-      (also (refuse-is P z 5 _ (omega arith)) (also (slot-is P z f h (omega arith)) (also (head-is P z s none (f h) (omega arith) (omega arith)) end)))))
+      table-then P z s f (capacity s t) _ (omega arith) (omega arith) (omega arith)
+      (also (refuse-is P z 5 _ (omega arith)) (also (slot-is P z f h (omega arith)) (also (head-is P z s none (f h) (omega arith) (omega arith)) end)))
 
-  read-among : (k : Option (List ℕ)) (h : ℕ) (out : List ℕ) → read s k h t out .0 ≡ refusal n → 0 < occ n (numbersOf (Read k h out))
+module _ (s : Settings) (t : List ℕ) (n : ℕ) where
+  read-among : (k : Option (List ℕ)) (h : ℕ) (out : List ℕ) → read s k h t out .0 ≡ refusal n → 0 < occ n (numbersOf (Look (Read k h out)))
   unfolding read numbersOf outputTest occ hit
   read-among k h out e =
       let f : View = view (s .size) t in
-      let P : ℕ → Type 0 = Among (numbersOf (Read k h out)) in
+      let P : ℕ → Type 0 = Among (numbersOf (Look (Read k h out))) in
       let z : P 0 = omega arith in
-      among (numbersOf (Read k h out)) _ out _ n (found-granted _ _ _ _) e
+      among (numbersOf (Look (Read k h out))) _ out _ n (found-granted _ _ _ _) e
       (first-is P z _ (table-then P z s f (capacity s t) _ (omega arith) (omega arith) (omega arith) (also (key-is P z s k (omega arith))
       (chain-then P z s f h k _ (omega arith) (omega arith) (omega arith) (omega arith) (also (refuse-is P z 13 _ (omega arith)) end)))))
 
   -- on a multipart table 1; on a fixed one no later part can be at fault
-  look-among : (k : Option (List ℕ)) (h : ℕ) → lookFixed s k h t .0 ≡ refusal n → 0 < occ n (numbersOf (FindFixed k h))
+  look-among : (k : Option (List ℕ)) (h : ℕ) → lookFixed s k h t .0 ≡ refusal n → 0 < occ n (numbersOf (Look (FindFixed k h)))
   unfolding lookFixed fixedTests numbersOf occ hit
-  look-among k h e = among (numbersOf (FindFixed k h)) _ [] _ n (found-granted _ _ _ _) e (go (which (s .multipart)))
+  look-among k h e = among (numbersOf (Look (FindFixed k h))) _ [] _ n (found-granted _ _ _ _) e (go (which (s .multipart)))
     where
       f : View
       f = view (s .size) t
 
       P : ℕ → Type 0
-      P = Among (numbersOf (FindFixed k h))
+      P = Among (numbersOf (Look (FindFixed k h)))
 
       z : P 0
       z = omega arith
@@ -194,25 +182,23 @@ module _ (s : Settings) (t : List ℕ) (n : ℕ) where
           first-is P z _ (also (refuse-is P z 1 _ (omega arith)) (table-then P z s f (capacity s t) _ (omega arith) (omega arith) (omega arith) (also (key-is P z s k (omega arith))
           (also (slot-is P z f h (omega arith)) (also (head-is P z s k (f h) (omega arith) (omega arith)) (also (subst P (sym (ap (λ (w : Walk). w .fault) (walk-fixed s f (filled f) h m))) z) end))))))
 
-  count-among : freeCount s t ≡ refusal n → 0 < occ n (numbersOf FreeCount)
+  count-among : freeCount s t ≡ refusal n → 0 < occ n (numbersOf (Look FreeCount))
   unfolding freeCount numbersOf occ hit
   count-among e =
       let f : View = view (s .size) t in
-      let P : ℕ → Type 0 = Among (numbersOf FreeCount) in
+      let P : ℕ → Type 0 = Among (numbersOf (Look FreeCount)) in
       let z : P 0 = omega arith in
-      among (numbersOf FreeCount) _ [] _ n (members-granted _) (sym (answer-alone _ _ []) ∙ e)
+      among (numbersOf (Look FreeCount)) _ [] _ n (members-granted _) (sym (answer-alone _ _ []) ∙ e)
       (first-is P z _ (table-then P z s f (capacity s t) _ (omega arith) (omega arith) (omega arith) (also (free-is P z (freeList f) (omega arith)) end)))
 
 pub refusal-among : (s : Settings) (c : Call) (t : List ℕ) (n : ℕ) → run s (teller c) t .answer ≡ refusal n → 0 < occ n (numbersOf c)
-unfolding teller run findFixed numbersOf
-refusal-among s (Insert k c m) t n e = insert-among s t n k c m e
-refusal-among s (Replace k c m h) t n e = replace-among s t n k c m h e
-refusal-among s (Remove h) t n e = remove-among s t n h e
-refusal-among s (Change d h) t n e = change-among s t n d h e
-refusal-among s (Read k h out) t n e = read-among s t n k h out e
-refusal-among s (ReadFixed k h) t n e = look-among s t n k h e
-refusal-among s (FindFixed k h) t n e = look-among s t n k h e
-refusal-among s FreeCount t n e = count-among s t n e
+unfolding teller run findFixed numbersOf occ hit
+refusal-among s (Write w) t n e =
+    among (numbersOf (Write w)) _ t _ n (decided-granted s _ _ w) e (first-is (Among (numbersOf (Write w))) (omega arith) _ (writes-among s t w))
+refusal-among s (Look (Read k h out)) t n e = read-among s t n k h out e
+refusal-among s (Look (ReadFixed k h)) t n e = look-among s t n k h e
+refusal-among s (Look (FindFixed k h)) t n e = look-among s t n k h e
+refusal-among s (Look FreeCount) t n e = count-among s t n e
 
 -- ---- visits
 

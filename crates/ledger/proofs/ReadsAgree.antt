@@ -14,7 +14,7 @@ use Rattle.definition.specs.Chains.{Walk, contentOf}
 use Rattle.definition.specs.Answers.{Answer, found, content, members}
 use Rattle.definition.specs.Calls.{capacity, checkedKeyTest, outputTest, tableTests, answerUnless, read, fixedTests, lookFixed, readFixed, findFixed, freeCount}
 use Rattle.definition.specs.Sound.{chainAt, Sound}
-use Rattle.definition.specs.Ledger.{Read, ReadFixed, FindFixed, FreeCount, told, chainTest, contentIn, foundIn, ledgerLook, ledgerStep}
+use Rattle.definition.specs.Ledger.{Read, ReadFixed, FindFixed, FreeCount, Look, told, chainTest, contentIn, foundIn, ledgerFixed, ledgerStep}
 use Rattle.definition.specs.Run.{chainOn, ledgerView, ledgerOf}
 use Rattle.laws.proofs.Tests.{passed, first-pass, first-cons, first-past}
 use Rattle.laws.proofs.Chains.{ChainAt}
@@ -39,7 +39,7 @@ found-on s f F h (x ∷ l) c = refl
 -- ---- the copying read
 
 pub read-agrees : (s : Settings) (t : List ℕ) (key : Option (List ℕ)) (h : ℕ) (out : List ℕ) → Sound s t
-    → Agrees s t 0 (told t (read s key h t out)) (ledgerStep s (capacity s t) (Read key h out) (ledgerOf s t))
+    → Agrees s t 0 (told t (read s key h t out)) (ledgerStep s (capacity s t) (Look (Read key h out)) (ledgerOf s t))
 unfolding read ledgerStep ledgerView
 read-agrees s t key h out k =
     let f : View = view (s .size) t in
@@ -57,8 +57,8 @@ read-agrees s t key h out k =
 
 -- ---- the fixed read and its companion
 
-look-agrees : (s : Settings) (t : List ℕ) (key : Option (List ℕ)) (h : ℕ) → Sound s t → lookFixed s key h t ≡ ledgerLook s key h (ledgerOf s t)
-unfolding lookFixed fixedTests ledgerLook ledgerView
+look-agrees : (s : Settings) (t : List ℕ) (key : Option (List ℕ)) (h : ℕ) → Sound s t → lookFixed s key h t ≡ ledgerFixed s key h (ledgerOf s t)
+unfolding lookFixed fixedTests ledgerFixed ledgerView
 look-agrees s t key h k =
     let f : View = view (s .size) t in
     let cap : ℕ = capacity s t in
@@ -76,19 +76,19 @@ look-agrees s t key h k =
     ∙ sym (ap₂ (λ (a : Answer) (b : List ℕ). (a, b)) (found-on s f (filled f) h l (there .0)) (content-on s f (filled f) h l (there .0))))
 
 pub readFixed-agrees : (s : Settings) (t : List ℕ) (key : Option (List ℕ)) (h : ℕ) → Sound s t
-    → Agrees s t 0 (told t (content (readFixed s key h t), [])) (ledgerStep s (capacity s t) (ReadFixed key h) (ledgerOf s t))
+    → Agrees s t 0 (told t (content (readFixed s key h t), [])) (ledgerStep s (capacity s t) (Look (ReadFixed key h)) (ledgerOf s t))
 unfolding readFixed ledgerStep
 readFixed-agrees s t key h k = agree-same s t _ _ k (ap (λ (r : Answer × List ℕ). (content (r .1), [])) (look-agrees s t key h k))
 
 pub findFixed-agrees : (s : Settings) (t : List ℕ) (key : Option (List ℕ)) (h : ℕ) → Sound s t
-    → Agrees s t 0 (told t (findFixed s key h t, [])) (ledgerStep s (capacity s t) (FindFixed key h) (ledgerOf s t))
+    → Agrees s t 0 (told t (findFixed s key h t, [])) (ledgerStep s (capacity s t) (Look (FindFixed key h)) (ledgerOf s t))
 unfolding findFixed ledgerStep
 findFixed-agrees s t key h k = agree-same s t _ _ k (ap (λ (r : Answer × List ℕ). (r .0, [])) (look-agrees s t key h k))
 
 -- ---- the free count
 
 pub freeCount-agrees : (s : Settings) (t : List ℕ) → Sound s t
-    → Agrees s t 0 (told t (freeCount s t, [])) (ledgerStep s (capacity s t) FreeCount (ledgerOf s t))
+    → Agrees s t 0 (told t (freeCount s t, [])) (ledgerStep s (capacity s t) (Look FreeCount) (ledgerOf s t))
 unfolding freeCount ledgerStep ledgerView answerUnless
 freeCount-agrees s t k =
     let f : View = view (s .size) t in

@@ -21,8 +21,7 @@ use Rattle.laws.proofs.Tests.{refuse-no, first-skip, first-pass}
 use Rattle.laws.proofs.Lists.{drop-take}
 use Rattle.laws.proofs.Bytes.{le-bytes, length-bytes}
 use Rattle.laws.proofs.Chains.{TailAt, ChainAt, Same, restBody-frame, rest-frame}
-use Rattle.laws.proofs.Overheads.{start-least, start-fixed, start-multi}
-use Rattle.laws.proofs.Parts.{overhead-bounds}
+use Rattle.laws.proofs.Overheads.{overhead-bounds, start-least, start-fixed, start-multi, counted-prefix}
 
 -- ---- b with the count c at place st
 
@@ -104,10 +103,6 @@ module _ (s : Settings) (c : ℕ) (b : List ℕ) (len : startOverhead s + countB
       ∙ first-skip (refuse 8 (eqb c 0)) _ (refuse-no 8 (eqb c 0) (ne-eqb c 0 (omega arith))) ∙ n .1)
 
 -- ---- what the chain holds
-
-pub counted-prefix : (s : Settings) → s .counted ≡ true → prefixLen s ≡ countBytes + keyLen s
-unfolding prefixLen countLen
-counted-prefix s d = ap (λ (n : ℕ). n + keyLen s) (cond-yes {X = ℕ} (s .counted) countBytes 0 d)
 
 module _ (s : Settings) (f g : View) (c h : ℕ) (l : List ℕ) (len : startOverhead s + countBytes ≤ length (f h))
     (gh : g h ≡ recounted (startOverhead s) c (f h)) (others : Same f g l) where

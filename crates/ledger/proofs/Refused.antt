@@ -8,32 +8,27 @@ use mathlib.Core.Bool.{Bool}
 use mathlib.Core.List.{List, []}
 use mathlib.Core.Option.{Option, none, some}
 use Rattle.definition.specs.declared.Settings.{Settings}
+use Rattle.definition.specs.Slots.{View}
 use Rattle.definition.specs.Answers.{Answer, refusal, at, accepted, found, content, members}
-use Rattle.definition.specs.Calls.{unless, answerUnless, insert, replace, remove, counted, change, read, lookFixed, readFixed, findFixed, freeCount}
-use Rattle.definition.specs.Ledger.{Call, Insert, Replace, Remove, Change, Read, ReadFixed, FindFixed, FreeCount, Outcome, wrote, told}
+use Rattle.definition.specs.Calls.{unless, answerUnless, Supply, counted, Writing, Insert, Replace, Remove, Change, decide, read, lookFixed, readFixed, findFixed, freeCount}
+use Rattle.definition.specs.Ledger.{Read, ReadFixed, FindFixed, FreeCount, Call, Write, Look, Outcome, wrote, told}
 use Rattle.definition.specs.Run.{run}
 
 -- the call that tells a call's refusal: the call itself, for the fixed read its companion
 unfoldable pub teller : Call → Call
-teller (Insert k c m) = Insert k c m
-teller (Replace k c m h) = Replace k c m h
-teller (Remove h) = Remove h
-teller (Change d h) = Change d h
-teller (Read k h out) = Read k h out
-teller (ReadFixed k h) = FindFixed k h
-teller (FindFixed k h) = FindFixed k h
-teller FreeCount = FreeCount
+teller (Write w) = Write w
+teller (Look (Read k h out)) = Look (Read k h out)
+teller (Look (ReadFixed k h)) = Look (FindFixed k h)
+teller (Look (FindFixed k h)) = Look (FindFixed k h)
+teller (Look FreeCount) = Look FreeCount
 
 -- what a call refused with n leaves of the table t: the number, the table, and the output that was lent, if one was
 unfoldable pub refusedWith : ℕ → Call → List ℕ → Outcome (List ℕ)
-refusedWith n (Insert k c m) t = record { answer = refusal n; after = t; output = [] }
-refusedWith n (Replace k c m h) t = record { answer = refusal n; after = t; output = [] }
-refusedWith n (Remove h) t = record { answer = refusal n; after = t; output = [] }
-refusedWith n (Change d h) t = record { answer = refusal n; after = t; output = [] }
-refusedWith n (Read k h out) t = record { answer = refusal n; after = t; output = out }
-refusedWith n (ReadFixed k h) t = record { answer = content []; after = t; output = [] }
-refusedWith n (FindFixed k h) t = record { answer = refusal n; after = t; output = [] }
-refusedWith n FreeCount t = record { answer = refusal n; after = t; output = [] }
+refusedWith n (Write w) t = record { answer = refusal n; after = t; output = [] }
+refusedWith n (Look (Read k h out)) t = record { answer = refusal n; after = t; output = out }
+refusedWith n (Look (ReadFixed k h)) t = record { answer = content []; after = t; output = [] }
+refusedWith n (Look (FindFixed k h)) t = record { answer = refusal n; after = t; output = [] }
+refusedWith n (Look FreeCount) t = record { answer = refusal n; after = t; output = [] }
 
 -- ---- refused where a test refuses
 
@@ -60,10 +55,17 @@ at-granted h n e = let z : _≡_ {A = ℕ} 0 1 = cc in omega arith
 pub accepted-granted : Granted accepted
 accepted-granted n e = let z : _≡_ {A = ℕ} 0 1 = cc in omega arith
 
-pub counted-granted : (s : Settings) (h : ℕ) (t : List ℕ) (o : Option ℕ) → Granted (counted s h t o .0)
+counted-granted : (s : Settings) (h : ℕ) (b : List ℕ) (o : Option ℕ) → Granted (counted s h b o .0)
 unfolding counted
-counted-granted s h t none n e = let z : _≡_ {A = ℕ} 0 1 = cc in omega arith
-counted-granted s h t (some c) n e = let z : _≡_ {A = ℕ} 0 1 = cc in omega arith
+counted-granted s h b none n e = let z : _≡_ {A = ℕ} 0 1 = cc in omega arith
+counted-granted s h b (some c) n e = let z : _≡_ {A = ℕ} 0 1 = cc in omega arith
+
+-- the answer that a writing call comes to
+pub decided-granted : (s : Settings) (p : Supply) (f : View) (w : Writing) → Granted (decide s p f w .answer)
+decided-granted s p f (Insert k c m) = at-granted _
+decided-granted s p f (Replace k c m h) = accepted-granted
+decided-granted s p f (Remove h) = accepted-granted
+decided-granted s p f (Change d h) = counted-granted s h _ _
 
 pub found-granted : (len : ℕ) (mark : Bool) (c visits : ℕ) → Granted (found len mark c visits)
 found-granted len mark c visits n e = let z : _≡_ {A = ℕ} 0 1 = cc in omega arith
@@ -73,12 +75,9 @@ members-granted m n e = let z : _≡_ {A = ℕ} 0 1 = cc in omega arith
 
 pub refused-leaves : (s : Settings) (c : Call) (t : List ℕ) (n : ℕ) → run s (teller c) t .answer ≡ refusal n
     → run s c t ≡ refusedWith n c t
-unfolding teller refusedWith run insert replace remove change read readFixed findFixed lookFixed freeCount
-refused-leaves s (Insert k c m) t n e = ap (λ (r : Answer × List ℕ). wrote r) (unless-refused _ t _ n (at-granted _) e .0)
-refused-leaves s (Replace k c m h) t n e = ap (λ (r : Answer × List ℕ). wrote r) (unless-refused _ t _ n accepted-granted e .0)
-refused-leaves s (Remove h) t n e = ap (λ (r : Answer × List ℕ). wrote r) (unless-refused _ t _ n accepted-granted e .0)
-refused-leaves s (Change d h) t n e = ap (λ (r : Answer × List ℕ). wrote r) (unless-refused _ t _ n (counted-granted s h t _) e .0)
-refused-leaves s (Read k h out) t n e = ap (λ (r : Answer × List ℕ). told t r) (unless-refused _ out _ n (found-granted _ _ _ _) e .0)
-refused-leaves s (ReadFixed k h) t n e = ap (λ (r : Answer × List ℕ). told t (content (r .1), [])) (unless-refused _ [] _ n (found-granted _ _ _ _) e .0)
-refused-leaves s (FindFixed k h) t n e = ap (λ (r : Answer × List ℕ). told t (r .0, [])) (unless-refused _ [] _ n (found-granted _ _ _ _) e .0)
-refused-leaves s FreeCount t n e = ap (λ (a : Answer). told t (a, [])) e
+unfolding teller refusedWith run read readFixed findFixed lookFixed freeCount
+refused-leaves s (Write w) t n e = ap (λ (r : Answer × List ℕ). wrote r) (unless-refused _ t _ n (decided-granted s _ _ w) e .0)
+refused-leaves s (Look (Read k h out)) t n e = ap (λ (r : Answer × List ℕ). told t r) (unless-refused _ out _ n (found-granted _ _ _ _) e .0)
+refused-leaves s (Look (ReadFixed k h)) t n e = ap (λ (r : Answer × List ℕ). told t (content (r .1), [])) (unless-refused _ [] _ n (found-granted _ _ _ _) e .0)
+refused-leaves s (Look (FindFixed k h)) t n e = ap (λ (r : Answer × List ℕ). told t (r .0, [])) (unless-refused _ [] _ n (found-granted _ _ _ _) e .0)
+refused-leaves s (Look FreeCount) t n e = ap (λ (a : Answer). told t (a, [])) e

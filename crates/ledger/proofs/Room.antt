@@ -6,7 +6,7 @@ use Prim.Native.Nat.{ℕ, zero, suc, _+_, _-_, _≤_, _<_}
 use native.Mathlib.Nat.{sub-zero}
 use native.Mathlib.Omega.{arith}
 use native.Mathlib.Decide.{decLt}
-use mathlib.Core.Bool.{Bool}
+use mathlib.Core.Bool.{Bool, false}
 use mathlib.Core.List.{List, [], _∷_, _++_, headD}
 use mathlib.Core.Option.{none}
 use lib.ListN.{length}
@@ -20,7 +20,7 @@ use Rattle.definition.specs.Chains.{walk}
 use Rattle.definition.specs.Parts.{prefix, pieces}
 use Rattle.definition.specs.Effect.{newSlots}
 use Rattle.definition.specs.Answers.{Answer, refusal, at, accepted}
-use Rattle.definition.specs.Calls.{capacity, freeListTest, roomTest, tableTests, valueTests, chainTests, unless, insert, replace}
+use Rattle.definition.specs.Calls.{capacity, roomTest, unless, Supply, supplyOf, Writing, Insert, Replace, decide, insert, replace}
 use Rattle.laws.proofs.Tests.{refuse-yes, refuse-no, first-past, first-one}
 use Rattle.ledger.proofs.Refused.{unless-refused, at-granted, accepted-granted}
 use Rattle.ledger.proofs.Numbers.{Each, end, also, first-is, table-then, value-then, chain-then, free-is}
@@ -33,16 +33,18 @@ spare s t = let f = view (s .size) t in length (membersOf (freeList f)) + (capac
 unfoldable pub needed : Settings → List ℕ → List ℕ → List ℕ → ℕ
 needed s key content old = length (pieces s (prefix s key ++ content)) - length old
 
--- the checks of insert and of replace that come before the room
+-- the checks of a call that come before the room: its tests, were there always room. The mark is in none of them
+abbrev ample : Supply → Supply
+ample p = record { free = p .free; table = p .table; list = p .list; room = λ need. [] }
+
+abbrev checksOf : Settings → Writing → List ℕ → List ℕ
+checksOf s w t = decide s (ample (supplyOf s t)) (view (s .size) t) w .tests
+
 abbrev pub insertChecks : Settings → List ℕ → List ℕ → List ℕ → List ℕ
-insertChecks s key content t =
-    let f = view (s .size) t in
-    tableTests s f (capacity s t) ++ (valueTests s key content ++ (freeListTest (freeList f) ∷ []))
+insertChecks s key content t = checksOf s (Insert key content false) t
 
 abbrev pub replaceChecks : Settings → List ℕ → List ℕ → ℕ → List ℕ → List ℕ
-replaceChecks s key content h t =
-    let f = view (s .size) t in
-    tableTests s f (capacity s t) ++ (valueTests s key content ++ (chainTests s f h none ++ (freeListTest (freeList f) ∷ [])))
+replaceChecks s key content h t = checksOf s (Replace key content false h) t
 
 -- 12 exactly when the slots needed exceed the spare ones; else this answer
 pub record TwelveExactly (need spared : ℕ) (else answer : Answer) : Type 0 where

@@ -15,9 +15,9 @@ use Rattle.definition.specs.FreeList.{freeList, membersOf}
 use Rattle.definition.specs.Parts.{prefix}
 use Rattle.definition.specs.Effect.{newSlots, freeAfter, filledAfter, effect}
 use Rattle.definition.specs.Answers.{Answer, at, accepted}
-use Rattle.definition.specs.Calls.{capacity, keyTest, valueTest, freeListTest, roomTest, tableTests, insert, replace, remove}
+use Rattle.definition.specs.Calls.{capacity, keyTest, valueTest, freeListTest, roomTest, tableTests, insert, replace, remove, Insert, Replace, Remove}
 use Rattle.definition.specs.Sound.{occ, chainAt, SoundView, Sound}
-use Rattle.definition.specs.Ledger.{Insert, Replace, Remove, wrote, withChain, newChain, chainTest, target, ledgerStep}
+use Rattle.definition.specs.Ledger.{Write, wrote, withChain, newChain, chainTest, target, ledgerStep}
 use Rattle.definition.specs.Run.{chainOn, ledgerView, ledgerOf}
 use Rattle.laws.proofs.Tests.{first-skip, first-pass, first-cons, first-past, first-one}
 use Rattle.laws.proofs.Counting.{occ-range-below}
@@ -25,17 +25,13 @@ use Rattle.laws.proofs.Stores.{length-new, effect-owns}
 use Rattle.laws.proofs.Chains.{ChainAt}
 use Rattle.laws.proofs.Sizes.{slot-whole, capacity-small, room-fits}
 use Rattle.laws.proofs.Parts.{pieces-some}
-use Rattle.laws.proofs.NewChains.{Cut, pieces-cut}
-use Rattle.laws.proofs.Fitting.{CutOrNone, effect-fits}
+use Rattle.laws.proofs.NewChains.{pieces-cut}
+use Rattle.laws.proofs.Fitting.{cut-any, effect-fits}
 use Rattle.ledger.proofs.Invariant.{Parted, chain-members, own-head, owned-once, chain-counted, after-in}
 use Rattle.ledger.proofs.SoundTables.{sound-tests, sound-free-test, sound-open, sound-sizes, sound-parted}
 use Rattle.ledger.proofs.Rewritten.{cutOf, newOf, freeOf, filledOf, storesOf, Rewritten, Written, written, removed, head-member}
 use Rattle.ledger.proofs.Agrees.{Agrees, agree-unless, agree-stores, ledger-after, holds-chain}
 use Rattle.ledger.proofs.LedgerTests.{slots-on, chain-tests-only, chain-there}
-
-pub cut-any : (s : Settings) (ps : List (List ℕ)) → Cut s ps → CutOrNone s ps
-cut-any s [] c = absurd c
-cut-any s (p ∷ ps) c = c
 
 -- all slots together are no longer than the table
 slots-short : (s : Settings) (t : List ℕ) (n : ℕ) → length t < n → capacity s t * s .size < n
@@ -102,8 +98,8 @@ sub-none : (n : ℕ) → n - length {A = ℕ} [] ≡ n
 sub-none n = omega arith
 
 pub insert-agrees : (s : Settings) (t key content : List ℕ) (mark : Bool) → Sound s t → length t < 256 ^ linkBytes
-    → Agrees s t (target s (Insert key content mark) (ledgerOf s t)) (wrote (insert s key content mark t))
-    (ledgerStep s (capacity s t) (Insert key content mark) (ledgerOf s t))
+    → Agrees s t (target s (Write (Insert key content mark)) (ledgerOf s t)) (wrote (insert s key content mark t))
+    (ledgerStep s (capacity s t) (Write (Insert key content mark)) (ledgerOf s t))
 unfolding insert ledgerStep ledgerView target
 insert-agrees s t key content mark k bound =
     let f : View = view (s .size) t in
@@ -126,7 +122,7 @@ head-kept s f F h (x ∷ l) free zero c p = absurd (omega arith)
 head-kept s f F h (x ∷ l) free (suc n) c p = c .0
 
 pub replace-agrees : (s : Settings) (t key content : List ℕ) (mark : Bool) (h : ℕ) → Sound s t → length t < 256 ^ linkBytes
-    → Agrees s t h (wrote (replace s key content mark h t)) (ledgerStep s (capacity s t) (Replace key content mark h) (ledgerOf s t))
+    → Agrees s t h (wrote (replace s key content mark h t)) (ledgerStep s (capacity s t) (Write (Replace key content mark h)) (ledgerOf s t))
 unfolding replace ledgerStep ledgerView
 replace-agrees s t key content mark h k bound =
     let f : View = view (s .size) t in
@@ -177,7 +173,7 @@ erase-agrees s t h k bound c =
     (r .othersStay)
 
 pub remove-agrees : (s : Settings) (t : List ℕ) (h : ℕ) → Sound s t → length t < 256 ^ linkBytes
-    → Agrees s t h (wrote (remove s h t)) (ledgerStep s (capacity s t) (Remove h) (ledgerOf s t))
+    → Agrees s t h (wrote (remove s h t)) (ledgerStep s (capacity s t) (Write (Remove h)) (ledgerOf s t))
 unfolding remove ledgerStep ledgerView
 remove-agrees s t h k bound =
     let f : View = view (s .size) t in

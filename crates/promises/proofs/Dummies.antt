@@ -13,13 +13,13 @@ use Rattle.definition.specs.declared.Settings.{Settings}
 use Rattle.definition.specs.Numbers.{le, bytes, num, over, put, sameBytes, range}
 use Rattle.definition.specs.Tests.{refuse, first}
 use Rattle.definition.specs.Settings.{countLen, keyLen, prefixLen, headOverhead, startOverhead, badSettings}
-use Rattle.definition.specs.Slots.{view, lastRemoved, filled, marked, isFree, isContinuation, isHead, sizeWord, sizeOf, topBit, totalOf, headLink, linkOf, starts, countOf, keyOf, markOf, partialKey, store}
+use Rattle.definition.specs.Slots.{view, lastRemoved, filled, marked, isFree, isContinuation, isHead, sizeWord, sizeOf, topBit, totalOf, headLink, linkOf, starts, countOf, keyOf, markOf, startBody, partialKey, store}
 use Rattle.definition.specs.FreeList.{push, freeFrom, freeList, membersOf}
 use Rattle.definition.specs.Chains.{unlessRefused, keyDiffers, headFault, lastFault, laterParse, isLast, onward, partsFrom, sizedBody, restBody, bodyOf, contentOf, totalGood, withTotal, walk}
 use Rattle.definition.specs.Parts.{prefix, cutRest, cut, pieces, sizedPart, continuationPart, storedTotal, headPart, freeSlot, restStores, chainStores, freeStores}
 use Rattle.definition.specs.Effect.{newSlots, leftOver, freeLeft, freeAfter, filledAfter, headerStore, headerStores, effect}
-use Rattle.definition.specs.Calls.{capacity, settingsTest, bufferTest, headerTest, keyTest, checkedKeyTest, uncountedTest, valueTest, slotTest, freeListTest, roomTest, outputTest, unless, answerUnless, insert, replace, remove, lowered, newCount, countStore, counted, change, read, fixedTests, lookFixed, readFixed, findFixed, freeCount}
-use Rattle.definition.specs.Ledger.{Call, Insert, Replace, Remove, Change, Read, ReadFixed, FindFixed, FreeCount, Outcome}
+use Rattle.definition.specs.Calls.{capacity, settingsTest, bufferTest, headerTest, keyTest, checkedKeyTest, uncountedTest, valueTest, slotTest, freeListTest, roomTest, outputTest, unless, answerUnless, lowered, newCount, countStore, counted, Insert, Replace, Remove, Change, read, fixedTests, lookFixed, readFixed, findFixed, freeCount}
+use Rattle.definition.specs.Ledger.{Read, ReadFixed, FindFixed, FreeCount, Call, Write, Look, Outcome}
 use Rattle.definition.specs.Run.{run}
 use Rattle.definition.specs.Figures.{numbers, every}
 use Rattle.promises.proofs.Performed.{Performed, callOf, startOf, outcomeOf, performed-is}
@@ -45,14 +45,14 @@ fresh = replicate 256 0
 
 -- two records that differ in content, mark and count; then the first is gone
 two : List ℕ
-two = run fixed (Change (pos 1) 2) (run fixed (Insert key (5 ∷ 6 ∷ []) true) (run fixed (Insert key (4 ∷ []) false) fresh .after) .after) .after
+two = run fixed (Write (Change (pos 1) 2)) (run fixed (Write (Insert key (5 ∷ 6 ∷ []) true)) (run fixed (Write (Insert key (4 ∷ []) false)) fresh .after) .after) .after
 
 one : List ℕ
-one = run fixed (Remove 1) two .after
+one = run fixed (Write (Remove 1)) two .after
 
 -- a chain of two parts
 chained : List ℕ
-chained = run multi (Insert [] (replicate 4095 7) false) (replicate 12288 0) .after
+chained = run multi (Write (Insert [] (replicate 4095 7) false)) (replicate 12288 0) .after
 
 room : List ℕ
 room = replicate 8 0
@@ -77,31 +77,31 @@ leavesApart a b = not (sameBytes (a .output) (b .output))
 pub dummies : List Bool
 dummies =
     -- one that refuses everything: each call is accepted somewhere, and the fixed read hands back a part that is not empty
-    accepts (Insert key (4 ∷ []) false) fresh
-    ∷ accepts (Replace key (4 ∷ []) false 1) two
-    ∷ accepts (Remove 1) two
-    ∷ accepts (Change (pos 1) 1) two
-    ∷ accepts (Read (some key) 1 room) two
-    ∷ accepts (FindFixed (some key) 1) two
-    ∷ tellsApart (run fixed (ReadFixed (some key) 1) two) (run fixed (ReadFixed (some key) 0) two)
-    ∷ accepts FreeCount two
+    accepts (Write (Insert key (4 ∷ []) false)) fresh
+    ∷ accepts (Write (Replace key (4 ∷ []) false 1)) two
+    ∷ accepts (Write (Remove 1)) two
+    ∷ accepts (Write (Change (pos 1) 1)) two
+    ∷ accepts (Look (Read (some key) 1 room)) two
+    ∷ accepts (Look (FindFixed (some key) 1)) two
+    ∷ tellsApart (run fixed (Look (ReadFixed (some key) 1)) two) (run fixed (Look (ReadFixed (some key) 0)) two)
+    ∷ accepts (Look FreeCount) two
     -- one that answers every read alike
-    ∷ tellsApart (run fixed (Read none 1 room) two) (run fixed (Read none 2 room) two)
-    ∷ leavesApart (run fixed (Read none 1 room) two) (run fixed (Read none 2 room) two)
-    ∷ tellsApart (run fixed (ReadFixed none 1) two) (run fixed (ReadFixed none 2) two)
-    ∷ tellsApart (run fixed (FindFixed none 1) two) (run fixed (FindFixed none 2) two)
+    ∷ tellsApart (run fixed (Look (Read none 1 room)) two) (run fixed (Look (Read none 2 room)) two)
+    ∷ leavesApart (run fixed (Look (Read none 1 room)) two) (run fixed (Look (Read none 2 room)) two)
+    ∷ tellsApart (run fixed (Look (ReadFixed none 1)) two) (run fixed (Look (ReadFixed none 2)) two)
+    ∷ tellsApart (run fixed (Look (FindFixed none 1)) two) (run fixed (Look (FindFixed none 2)) two)
     -- one that never writes, and one that inserts all and then ignores replace or remove
-    ∷ writes (Insert key (4 ∷ []) false) fresh
-    ∷ writes (Replace key (8 ∷ []) false 1) two
-    ∷ writes (Remove 1) two
-    ∷ writes (Change (pos 1) 1) two
-    ∷ not (sameBytes (run fixed (Read none 1 room) two .output) room)
+    ∷ writes (Write (Insert key (4 ∷ []) false)) fresh
+    ∷ writes (Write (Replace key (8 ∷ []) false 1)) two
+    ∷ writes (Write (Remove 1)) two
+    ∷ writes (Write (Change (pos 1) 1)) two
+    ∷ not (sameBytes (run fixed (Look (Read none 1 room)) two .output) room)
     -- one that invents the visits, or the free count: they are not the same everywhere
-    ∷ sameBytes (numbers (run multi (Read none 1 (replicate 4095 0)) chained .answer)) (5 ∷ 4095 ∷ 0 ∷ 1 ∷ 2 ∷ [])
-    ∷ sameBytes (numbers (run fixed (Read none 1 room) two .answer)) (5 ∷ 1 ∷ 0 ∷ 1 ∷ 1 ∷ [])
-    ∷ tellsApart (run fixed FreeCount two) (run fixed FreeCount one)
+    ∷ sameBytes (numbers (run multi (Look (Read none 1 (replicate 4095 0))) chained .answer)) (5 ∷ 4095 ∷ 0 ∷ 1 ∷ 2 ∷ [])
+    ∷ sameBytes (numbers (run fixed (Look (Read none 1 room)) two .answer)) (5 ∷ 1 ∷ 0 ∷ 1 ∷ 1 ∷ [])
+    ∷ tellsApart (run fixed (Look FreeCount) two) (run fixed (Look FreeCount) one)
     ∷ []
 
 pub dummies-shut-out : every dummies ≡ true
-unfolding headD le bytes num over put sameBytes range refuse first countLen keyLen prefixLen headOverhead startOverhead badSettings view lastRemoved filled marked isFree isContinuation isHead sizeWord sizeOf topBit totalOf headLink linkOf starts countOf keyOf markOf partialKey store push freeFrom freeList membersOf unlessRefused keyDiffers headFault lastFault laterParse isLast onward partsFrom sizedBody restBody bodyOf contentOf totalGood withTotal walk prefix cutRest cut pieces sizedPart continuationPart storedTotal headPart freeSlot restStores chainStores freeStores newSlots leftOver freeLeft freeAfter filledAfter headerStore headerStores effect capacity settingsTest bufferTest headerTest keyTest checkedKeyTest uncountedTest valueTest slotTest freeListTest roomTest outputTest unless answerUnless insert replace remove lowered newCount countStore counted change read fixedTests lookFixed readFixed findFixed freeCount run numbers every fixed multi key fresh two one chained room accepts writes tellsApart leavesApart dummies
+unfolding headD le bytes num over put sameBytes range refuse first countLen keyLen prefixLen headOverhead startOverhead badSettings view lastRemoved filled marked isFree isContinuation isHead sizeWord sizeOf topBit totalOf headLink linkOf starts countOf keyOf markOf startBody partialKey store push freeFrom freeList membersOf unlessRefused keyDiffers headFault lastFault laterParse isLast onward partsFrom sizedBody restBody bodyOf contentOf totalGood withTotal walk prefix cutRest cut pieces sizedPart continuationPart storedTotal headPart freeSlot restStores chainStores freeStores newSlots leftOver freeLeft freeAfter filledAfter headerStore headerStores effect capacity settingsTest bufferTest headerTest keyTest checkedKeyTest uncountedTest valueTest slotTest freeListTest roomTest outputTest unless answerUnless lowered newCount countStore counted read fixedTests lookFixed readFixed findFixed freeCount run numbers every fixed multi key fresh two one chained room accepts writes tellsApart leavesApart dummies
 dummies-shut-out = refl

@@ -17,8 +17,8 @@ use Rattle.definition.specs.declared.Changed.{Changed}
 use Rattle.definition.specs.declared.Found.{Found}
 use Rattle.definition.specs.declared.FreeCount.{FreeCount as Counted}
 use Rattle.definition.specs.Answers.{Answer, content, insertedOf, writtenOf, changedOf, foundOf, freeCountOf}
-use Rattle.definition.specs.Calls.{checkedKey}
-use Rattle.definition.specs.Ledger.{Call, Insert, Replace, Remove, Change, Read, ReadFixed, FindFixed, FreeCount, Outcome, wrote, told}
+use Rattle.definition.specs.Calls.{Insert, Replace, Remove, Change, insert, replace, remove, change, checkedKey}
+use Rattle.definition.specs.Ledger.{Read, ReadFixed, FindFixed, FreeCount, Call, Write, Look, Outcome, wrote, told}
 use Rattle.definition.specs.Run.{run}
 use Rattle.table.proofs.insert.Reads as insert-code
 use Rattle.table.proofs.replace.Reads as replace-code
@@ -53,14 +53,14 @@ pub data Performed (s : Settings) : Type 0 where
 
 -- the call as the ledger knows it
 abbrev pub callOf : {s : Settings} → Performed s → Call
-callOf (Inserting κ table after key value mark r e) = Insert (now key) (now value) mark
-callOf (Replacing κ table after h key value mark r e) = Replace (now key) (now value) mark h
-callOf (Removing κ table after h r e) = Remove h
-callOf (Changing κ table after h step r e) = Change step h
-callOf (Reading κ table h checked key output after r e) = Read (checkedKey checked (now key)) h (now output)
-callOf (ReadingFixed κ table h checked key r e) = ReadFixed (checkedKey checked (now key)) h
-callOf (FindingFixed κ table h checked key r e) = FindFixed (checkedKey checked (now key)) h
-callOf (Counting κ table r e) = FreeCount
+callOf (Inserting κ table after key value mark r e) = Write (Insert (now key) (now value) mark)
+callOf (Replacing κ table after h key value mark r e) = Write (Replace (now key) (now value) mark h)
+callOf (Removing κ table after h r e) = Write (Remove h)
+callOf (Changing κ table after h step r e) = Write (Change step h)
+callOf (Reading κ table h checked key output after r e) = Look (Read (checkedKey checked (now key)) h (now output))
+callOf (ReadingFixed κ table h checked key r e) = Look (ReadFixed (checkedKey checked (now key)) h)
+callOf (FindingFixed κ table h checked key r e) = Look (FindFixed (checkedKey checked (now key)) h)
+callOf (Counting κ table r e) = Look FreeCount
 
 -- the table's bytes when it was called
 abbrev pub startOf : {s : Settings} → Performed s → List ℕ
@@ -86,7 +86,7 @@ outcomeOf (Counting κ table r e) = told (now table) (freeCountOf r, [])
 
 -- the contracts carry the definition to the code
 pub performed-is : {s : Settings} (p : Performed s) → outcomeOf p ≡ run s (callOf p) (startOf p)
-unfolding run
+unfolding run insert replace remove change
 performed-is (Inserting κ table after key value mark r e) = ap wrote e
 performed-is (Replacing κ table after h key value mark r e) = ap wrote e
 performed-is (Removing κ table after h r e) = ap wrote e

@@ -2,7 +2,7 @@
 -- or answered as the definition says.
 use mathlib.Core.Path.{_≡_, refl, sym, ap, _∙_, subst}
 use mathlib.Core.Bool.{true, false, not}
-use mathlib.Core.List.{List, [], _∷_, _++_}
+use mathlib.Core.List.{List, [], _∷_}
 use mathlib.Core.Option.{Option, none, some}
 use Prim.Native.Nat.{ℕ, _+_, _-_, _*_, _≤_}
 use native.Mathlib.Omega.{arith}
@@ -15,11 +15,11 @@ use Rattle.definition.specs.declared.FreeCount.{FreeCount}
 use Rattle.definition.specs.Numbers.{bytes, put}
 use Rattle.definition.specs.Tests.{numberOf, first}
 use Rattle.definition.specs.Settings.{startOverhead, badSettings}
-use Rattle.definition.specs.Slots.{view, filled}
+use Rattle.definition.specs.Slots.{view, filled, store}
 use Rattle.definition.specs.FreeList.{freeFrom, freeList}
 use Rattle.definition.specs.Chains.{headFault}
-use Rattle.definition.specs.Answers.{refusal, count, lastReference, members, freeCountOf}
-use Rattle.definition.specs.Calls.{capacity, uncountedTest, slotTest, tableTests, newCount, counted, change, freeCount}
+use Rattle.definition.specs.Answers.{Answer, refusal, count, lastReference, members, freeCountOf}
+use Rattle.definition.specs.Calls.{uncountedTest, slotTest, newCount, counted, Change, decision, change, freeCount}
 use Rattle.laws.proofs.Tests.{number-some, refuse-yes, refuse-no, first-skip, first-pass, first-past, first-one, first-refuses, first-refuse-all}
 use Rattle.laws.proofs.Views.{within}
 use Rattle.laws.proofs.Overheads.{start-fits}
@@ -56,8 +56,7 @@ module _ (s : Settings) (z : ℤ) (h : ℕ) (t : List ℕ) where
 
     module _ (y : s .counted ≡ true) where
       -- the slot and the head decide
-      rest : first (tableTests s (view (s .size) t) (capacity s t) ++ (uncountedTest s ∷ slotTest (view (s .size) t) h ∷ headFault s none 8 (view (s .size) t h) ∷ []))
-          ≡ first (slotTest (view (s .size) t) h ∷ headFault s none 8 (view (s .size) t h) ∷ [])
+      rest : first (decision s (Change z h) t .tests) ≡ first (slotTest (view (s .size) t) h ∷ headFault s none 8 (view (s .size) t h) ∷ [])
       unfolding uncountedTest
       rest = first-past _ _ (o .0) ∙ first-skip _ _ (refuse-no 5 _ (ap not y))
 
@@ -73,12 +72,16 @@ module _ (s : Settings) (z : ℤ) (h : ℕ) (t : List ℕ) where
             let p = slot-passed (view (s .size) t) h (first-pass _ _ (e .0) .0) in
             (g .0, within (s .size) h (k .filled) (length t) (omega (arith, p .1, g .2)) (g .1))
 
-        changed : (n : Option ℕ) → newCount c z ≡ n → counted s h t n ≡ change s z h t
+        -- the answer and the table where the new count is n
+        abbrev stepped : Option ℕ → Answer × List ℕ
+        stepped n = let out = counted s h (view (s .size) t h) n in (out .0, store (s .size) t (out .1))
+
+        changed : (n : Option ℕ) → newCount c z ≡ n → stepped n ≡ change s z h t
         unfolding change
-        changed n q = ap (counted s h t) (sym q ∙ ap (λ (i : ℕ). newCount i z) (e .1)) ∙ accepts _ t _ (rest ∙ e .0)
+        changed n q = ap stepped (sym q ∙ ap (λ (i : ℕ). newCount i z) (e .1)) ∙ accepts _ t _ (rest ∙ e .0)
 
         pub change-last : Stepped.Last ≡ steppedTo (newCount c z) → (lastReference, t) ≡ change s z h t
-        unfolding counted
+        unfolding counted store
         change-last q = changed none (stepped-last _ q)
 
         pub change-stored : (n : ℕ) → Stepped.Count n ≡ steppedTo (newCount c z)

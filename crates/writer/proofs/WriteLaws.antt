@@ -32,7 +32,7 @@ continuation-put t t₁ t₂ t₃ n p h e₁ e₂ e₃ =
     e₂ ∙ ap (λ (u : List ℕ). put u 2 (bytes 8 n)) e₁ ∙ put-next t 0 2 continuationMark (bytes 8 n) refl (omega arith) in
     e₃ ∙ ap (λ (u : List ℕ). put u 10 p) d ∙ put-next t 0 10 (continuationMark ++ bytes 8 n) p (omega arith) (omega arith)
 
-pub head-put : (t t₁ t₂ t₃ t₄ : List ℕ) (s : Settings) (mark : Bool) (total n o : ℕ) (p : List ℕ) → o ≡ headOverhead s → 18 + length p ≤ length t
+pub head-put : (t t₁ t₂ t₃ t₄ : List ℕ) (s : Settings) (mark : Bool) (total n o : ℕ) (p : List ℕ) → o ≡ headOverhead s → o + length p ≤ length t
     → t₁ ≡ put t 0 (cond mark compressedMark headMark) → t₂ ≡ put t₁ 2 (bytes 8 total) → t₃ ≡ put t₂ (o - 8) (bytes 8 n) → t₄ ≡ put t₃ o p
     → t₄ ≡ put t 0 (headPart s mark total n p)
 unfolding headPart storedTotal headOverhead

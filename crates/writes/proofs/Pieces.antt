@@ -16,7 +16,8 @@ use Rattle.definition.specs.Parts.{headPart, continuationPart, cutRest, pieces}
 use Rattle.laws.proofs.Conditions.{cond-yes, cond-no, which, Which, isYes, isNo}
 use Rattle.laws.proofs.Lists.{length-part}
 use Rattle.laws.proofs.Sizes.{Sizes, sizes}
-use Rattle.laws.proofs.Parts.{Shaped, cutRest-joins, pieces-some, cutRest-last, cutRest-more, pieces-fixed, pieces-multi, overhead-bounds, length-head, length-continuation}
+use Rattle.laws.proofs.Overheads.{overhead-bounds}
+use Rattle.laws.proofs.Parts.{Shaped, cutRest-joins, pieces-some, cutRest-last, cutRest-more, pieces-fixed, pieces-multi, length-head, length-continuation}
 use Rattle.writes.specs.Steps.{overheadAt, placeAfter, pieceAt, linkedPart}
 use Rattle.writes.specs.Ready.{Fit}
 

@@ -3,7 +3,7 @@ use mathlib.Core.Path.{sym, ap, ap₂, _∙_}
 use Prim.Native.Nat.{ℕ, _-_}
 use borrow.Author.Needs.{needs}
 use Rattle.contents.specs.Spans.{startSpan}
-use Rattle.laws.proofs.Overheads.{head-is}
+use Rattle.laws.proofs.Overheads.{overhead-bounds}
 use Rattle.laws.proofs.Sizes.{sizes}
 use Rattle.laws.proofs.Conditions.{cond-yes, cond-no}
 use Rattle.contents.proofs.start_span.Statement.{statement}
@@ -14,7 +14,7 @@ head-overhead-requires c κs = search needs
 
 sub-t5 : tie.Need-sub-t5
 sub-t5 c =
-    let z = sizes (c .before .before .before .before .args .s) (c .before .before .before .before .pre .0) in omega (arith, c .before .head-overhead .ensures, head-is (c .before .before .before .before .args .s))
+    let z = sizes (c .before .before .before .before .args .s) (c .before .before .before .before .pre .0) in omega (arith, c .before .head-overhead .ensures, overhead-bounds (c .before .before .before .before .args .s))
 
 read-head-next-requires : tie.Need-read-head-next-requires
 read-head-next-requires c κs =

@@ -7,7 +7,7 @@ use mathlib.Core.Path.{_≡_, sym, _∙_, ap}
 use mathlib.Core.Bool.{true, false, _&&_, not}
 use borrow.Author.Needs.{needs}
 use Rattle.reader.proofs.ParseLaws.{no-mark, too-small, no-count, wrong-key, too-large, is-head, is-plain}
-use Rattle.laws.proofs.Overheads.{head-is}
+use Rattle.laws.proofs.Overheads.{overhead-bounds}
 use Rattle.laws.proofs.Sizes.{sizes}
 use Rattle.definition.specs.Settings.{prefixLen}
 use Rattle.definition.specs.Slots.{sizeOf, starts, countOf}
@@ -69,7 +69,7 @@ read-head-next-requires : tie.Need-read-head-next-requires
 read-head-next-requires c κs = let z = sizes (c .before .before .before .before .before .before .before .before .before .before .before .before .before .before .args .s) (c .before .before .before .before .before .before .before .before .before .before .before .before .before .before .pre .0) in omega (arith, c .before .before .before .before .before .before .before .before .before .before .before .before .before .before .pre .1)
 
 sub-t19 : tie.Need-sub-t19
-sub-t19 c = let z = sizes (c .before .before .before .before .before .before .before .before .before .before .before .before .before .before .before .before .args .s) (c .before .before .before .before .before .before .before .before .before .before .before .before .before .before .before .before .pre .0) in omega (arith, c .before .before .head-overhead .ensures, head-is (c .before .before .before .before .before .before .before .before .before .before .before .before .before .before .before .before .args .s))
+sub-t19 c = let z = sizes (c .before .before .before .before .before .before .before .before .before .before .before .before .before .before .before .before .args .s) (c .before .before .before .before .before .before .before .before .before .before .before .before .before .before .before .before .pre .0) in omega (arith, c .before .before .head-overhead .ensures, overhead-bounds (c .before .before .before .before .before .before .before .before .before .before .before .before .before .before .before .before .args .s))
 
 returns-6 : tie.Need-returns-6
 returns-6 c =

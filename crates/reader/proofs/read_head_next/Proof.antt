@@ -3,7 +3,7 @@ use denote.Ref.{now}
 use Prim.Native.Nat.{ℕ, _-_}
 use mathlib.Core.Path.{ap, _∙_}
 use borrow.Author.Needs.{needs}
-use Rattle.laws.proofs.Overheads.{head-is}
+use Rattle.laws.proofs.Overheads.{overhead-bounds}
 use Rattle.definition.specs.Slots.{headLink}
 use Rattle.definition.specs.Numbers.{num}
 use Rattle.reader.proofs.read_head_next.Statement.{statement}
@@ -14,11 +14,11 @@ head-overhead-requires c κs = search needs
 
 sub-u64-at : tie.Need-sub-u64-at
 sub-u64-at c =
-    omega (arith, c .head-overhead .ensures, head-is (c .before .before .args .s))
+    omega (arith, c .head-overhead .ensures, overhead-bounds (c .before .before .args .s))
 
 u64-at-requires : tie.Need-u64-at-requires
 u64-at-requires c κs =
-    omega (arith, c .head-overhead .ensures, head-is (c .before .before .args .s))
+    omega (arith, c .head-overhead .ensures, overhead-bounds (c .before .before .args .s))
 
 returns : tie.Need-returns
 unfolding headLink

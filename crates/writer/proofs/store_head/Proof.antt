@@ -9,7 +9,7 @@ use borrow.Author.Needs.{needs}
 use Rattle.writer.proofs.WriteLaws.{part-at}
 use Rattle.laws.proofs.Parts.{length-head}
 use Rattle.laws.proofs.Views.{lent-slot, lent-length}
-use Rattle.laws.proofs.Overheads.{head-is}
+use Rattle.laws.proofs.Overheads.{overhead-bounds}
 use Rattle.laws.proofs.Sizes.{sizes}
 use Rattle.definition.specs.Parts.{headPart}
 use Rattle.definition.specs.Settings.{headOverhead}
@@ -48,7 +48,7 @@ returns c =
     let b = now (a .prefix) ++ now (a .content) in
     let p = take (a .s .size - headOverhead (a .s)) b in
     let l = length-take-le (a .s .size - headOverhead (a .s)) b (rw length-append (c .before .before .before .before .before .before .before .before .before .pre .2)) in
-    lent-slot (now (a .table)) (a .s .size) (a .i) _ (headPart (a .s) (a .mark) (a .total) (a .next) p) (c .before .before .before .before .before .before .before .before .before .pre .1) (omega (arith, length-head (a .s) (a .mark) (a .total) (a .next) p, head-is (a .s)))
+    lent-slot (now (a .table)) (a .s .size) (a .i) _ (headPart (a .s) (a .mark) (a .total) (a .next) p) (c .before .before .before .before .before .before .before .before .before .pre .1) (omega (arith, length-head (a .s) (a .mark) (a .total) (a .next) p, overhead-bounds (a .s)))
     (c .before .before .write-head .ensures ∙ part-at (a .s .size) (a .i) (now (a .table)) (c .before .before .before .before .before .before .before .before .before .pre .1) (λ (n : ℕ). headPart (a .s) (a .mark) (a .total) (a .next) (take (n - headOverhead (a .s)) b)))
 
 pub store-head-spec : {M : Type 1} → statement M

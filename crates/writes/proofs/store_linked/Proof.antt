@@ -5,7 +5,7 @@ use denote.Ref.{now}
 use borrow.Author.Needs.{needs}
 use Rattle.definition.specs.Numbers.{put}
 use Rattle.laws.proofs.Sizes.{sizes}
-use Rattle.laws.proofs.Parts.{overhead-bounds}
+use Rattle.laws.proofs.Overheads.{overhead-bounds}
 use Rattle.writes.proofs.Pieces.{head-after, later-after, part-head, part-later}
 use Rattle.writes.proofs.store_linked.Statement.{statement}
 use Rattle.writes.proofs.store_linked.Tie as tie

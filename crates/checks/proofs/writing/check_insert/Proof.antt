@@ -11,7 +11,7 @@ use Rattle.laws.proofs.Tests.{number-some, first-refuse-all, first-past}
 use Rattle.checks.specs.declared.value.Valued.{Valued}
 use Rattle.checks.specs.declared.Opened.{Opened}
 use Rattle.definition.specs.Tests.{first, numberOf}
-use Rattle.definition.specs.Calls.{capacity, tableTests, roomTests}
+use Rattle.definition.specs.Calls.{capacity, tableTests, supplyOf, roomTests}
 use Rattle.definition.specs.Slots.{view}
 use Rattle.checks.proofs.writing.check_insert.Statement.{statement}
 use Rattle.checks.proofs.writing.check_insert.Tie as tie
@@ -33,8 +33,8 @@ valued-is c = subst (Values (c .before .before .before)) (c .before .n .given .1
 -- the room that is found decides
 decides : (s : Settings) (key content t : List ℕ) → first (tableTests s (view (s .size) t) (capacity s t)) ≡ 0 → (n : ℕ) → valuedIs (Valued.Parts n) s key content
     → (r : Written) → roomStage r s t n → testedIs r (insertTests s key content t)
-decides s key content t o n v Written.Accepted e = first-past _ _ o ∙ first-past _ _ (v .0) ∙ subst (λ (k : ℕ). first (roomTests (view (s .size) t) (capacity s t) k) ≡ 0) (v .1) e
-decides s key content t o n v (Written.Refused r) e = first-past _ _ o ∙ first-past _ _ (v .0) ∙ subst (λ (k : ℕ). first (roomTests (view (s .size) t) (capacity s t) k) ≡ numberOf r) (v .1) e
+decides s key content t o n v Written.Accepted e = first-past _ _ o ∙ first-past _ _ (v .0) ∙ subst (λ (k : ℕ). first (roomTests (supplyOf s t) k) ≡ 0) (v .1) e
+decides s key content t o n v (Written.Refused r) e = first-past _ _ o ∙ first-past _ _ (v .0) ∙ subst (λ (k : ℕ). first (roomTests (supplyOf s t) k) ≡ numberOf r) (v .1) e
 
 check-table-requires : tie.Need-check-table-requires
 check-table-requires c κs = search needs
