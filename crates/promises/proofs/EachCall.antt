@@ -1,7 +1,7 @@
--- What demands 1 and 3 say of one call, said of the code: whatever call it performed, a refused one leaves table and output as they were
--- (`code-refused-leaves`), nothing outside what a call may write changes (`code-framed`, `code-frame`, `code-keeps-others`), and 12 is answered
+-- What demands 1 and 3 say of one call, said of the code: whatever call it performed, where it answers a refusal table and output are as they
+-- were (`code-refused-leaves`), and where its companion does a fixed read hands back an empty part (`code-refused-told`), nothing outside what a call may write changes (`code-framed`, `code-frame`, `code-keeps-others`), and 12 is answered
 -- exactly where the new slots needed exceed the free and the unused ones (`code-insert-room`, `code-replace-room` and `…-twelve`).
-use mathlib.Core.Path.{_≡_, refl, sym, ap, subst}
+use mathlib.Core.Path.{_≡_, refl, sym, ap, ap₂, _∙_, subst}
 use mathlib.Core.Logic.{_≢_}
 use mathlib.Core.Bool.{Bool}
 use mathlib.Core.List.{List, [], _++_, headD}
@@ -21,14 +21,21 @@ use Rattle.definition.specs.Sound.{Sound, occ, chainAt}
 use Rattle.definition.specs.Ledger.{Write, Outcome, target}
 use Rattle.definition.specs.Run.{ledgerOf, run}
 use Rattle.ledger.proofs.Frame.{Framed, framed, Kept, frame, others-kept}
-use Rattle.ledger.proofs.Refused.{teller, refusedWith, refused-leaves}
+use Rattle.ledger.proofs.Refused.{teller, refusedWith, refused-leaves, refused-itself}
 use Rattle.ledger.proofs.Room.{spare, needed, insertChecks, replaceChecks, TwelveExactly, insert-room, replace-room, insert-twelve, replace-twelve}
 use Rattle.promises.proofs.Performed.{Performed, callOf, startOf, outcomeOf, performed-is}
 
 module _ {s : Settings} (p : Performed s) where
-  -- n is the number that the call, or the fixed read's companion, gives on this table
-  pub code-refused-leaves : (n : ℕ) → run s (teller (callOf p)) (startOf p) .answer ≡ refusal n → outcomeOf p ≡ refusedWith n (callOf p) (startOf p)
-  code-refused-leaves n e = rw (performed-is p) (refused-leaves s (callOf p) (startOf p) n e)
+  -- the code answered n
+  pub code-refused-leaves : (n : ℕ) → outcomeOf p .answer ≡ refusal n → outcomeOf p ≡ refusedWith n (callOf p) (startOf p)
+  code-refused-leaves n e = performed-is p ∙ refused-itself s (callOf p) (startOf p) n (ap (λ (o : Outcome (List ℕ)). o .answer) (sym (performed-is p)) ∙ e)
+
+  -- q, which tells of p, answered n: p again, of a fixed read its companion with the same arguments on a table of the same bytes
+  pub code-refused-told : (q : Performed s) → callOf q ≡ teller (callOf p) → startOf q ≡ startOf p → (n : ℕ) → outcomeOf q .answer ≡ refusal n
+      → outcomeOf p ≡ refusedWith n (callOf p) (startOf p)
+  code-refused-told q c t n e =
+      let asked : outcomeOf q ≡ run s (teller (callOf p)) (startOf p) = performed-is q ∙ ap₂ (run s) c t in
+      performed-is p ∙ refused-leaves s (callOf p) (startOf p) n (ap (λ (o : Outcome (List ℕ)). o .answer) (sym asked) ∙ e)
 
   pub code-framed : (w : Writing) → callOf p ≡ Write w → Framed s (decision s w (startOf p)) (startOf p) (outcomeOf p .after)
   unfolding run
