@@ -6,11 +6,10 @@ use mathlib.Core.Path.{_≡_, refl, sym, ap, ap₂, _∙_, subst}
 use mathlib.Core.Logic.{_≢_}
 use mathlib.Core.Bool.{Bool}
 use mathlib.Core.List.{List, [], _++_, headD}
-use Prim.Native.Nat.{ℕ, suc, _<_, _^_}
+use Prim.Native.Nat.{ℕ, suc, _<_}
 use lib.ListN.{length}
 use Rattle.definition.specs.declared.Settings.{Settings}
 use Rattle.definition.specs.Tests.{first}
-use Rattle.definition.specs.Settings.{linkBytes}
 use Rattle.definition.specs.Slots.{view, filled}
 use Rattle.definition.specs.FreeList.{freeList, membersOf}
 use Rattle.definition.specs.Chains.{walk}
@@ -21,7 +20,9 @@ use Rattle.definition.specs.Calls.{answerUnless, Writing, Insert, Replace, deci
 use Rattle.definition.specs.Sound.{Sound, occ, chainAt}
 use Rattle.definition.specs.Ledger.{Call, Write, Outcome, target}
 use Rattle.definition.specs.Run.{ledgerOf, run}
-use Rattle.ledger.proofs.Frame.{Framed, framed, Kept, frame, others-kept}
+use Rattle.ledger.proofs.Frame.{Framed, framed, Kept, frame}
+use Rattle.ledger.proofs.Spared.{SparedBy, call-spares}
+use Rattle.ledger.proofs.OtherChains.{others-kept}
 use Rattle.ledger.proofs.Refused.{teller, refusedWith, refused-leaves, refused-itself}
 use Rattle.ledger.proofs.Room.{spare, needed, insertChecks, replaceChecks, TwelveExactly, insert-room, replace-room, insert-twelve, replace-twelve}
 use Rattle.station.specs.declared.answers.PyltarkaSettings.{PyltarkaSettings}
@@ -34,12 +35,15 @@ use Rattle.promises.proofs.Exported as exported
 pub record Promised (s : Settings) (c : Call) (t : List ℕ) (o : Outcome (List ℕ)) : Type 0 where
   -- where it answers a refusal, table and output are as they were, and it answers nothing else
   pub refused-leaves : (n : ℕ) → o .answer ≡ refusal n → o ≡ refusedWith n c t
-  -- a call that writes changes nothing outside the places of its stores
+  -- a call that writes changes no byte outside the places of its stores, and none where a test refuses
   pub in-its-stores : (w : Writing) → c ≡ Write w → Framed s (decision s w t) t (o .after)
   -- no call changes the table's length, a byte after the last whole slot, or slot 0 past its first 16 bytes
   pub kept : Kept s t (o .after)
-  -- on a sound table shorter than 2 ^ 64 bytes none changes a byte in a slot of a chain other than the one that it is about
-  pub keeps-others : Sound s t → length t < 256 ^ linkBytes → (j : ℕ) → j ≢ target s c (ledgerOf s t)
+  -- a call that looks changes no byte of the table; one that writes none outside the chain that it finds, the members that it takes from the
+  -- free list, the slots that it takes from FILLED up and the header, and of a freed slot, the header and a count only ten, 16 and four bytes
+  pub spares : SparedBy s c t (o .after)
+  -- on a sound table none changes a byte in a slot of a chain other than the one that it is about
+  pub keeps-others : Sound s t → (j : ℕ) → j ≢ target s c (ledgerOf s t)
       → (i : ℕ) → 0 < occ i (chainAt s (view (s .size) t) j) → view (s .size) (o .after) i ≡ view (s .size) t i
   -- where the earlier checks pass, 12 is answered exactly when the new slots needed exceed the free and the unused ones
   pub insert-room : (key content : List ℕ) (mark : Bool) → c ≡ Write (Insert key content mark) → first (insertChecks s key content t) ≡ 0
@@ -61,6 +65,7 @@ promised s c t = record {
   refused-leaves = refused-itself s c t;
   in-its-stores = λ w e. rw e (framed s w t);
   kept = frame s c t;
+  spares = call-spares s c t;
   keeps-others = others-kept s c t;
   insert-room = λ key content mark e h. rw e (insert-room s key content mark t h);
   replace-room = λ key content mark h e k. rw e (replace-room s key content mark h t k);
