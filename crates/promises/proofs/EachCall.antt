@@ -1,7 +1,8 @@
 -- What demands 1 and 3 say of one call (`Promised`), said of the code: of each call of the table (`code-promised`) and of each C function
 -- (`station-promised`), an answer being there what came back says. In C's own words: where `number` is not 0, table and output are as they
 -- were and all else that came back is zero (`station-refused`). A fixed read of the table tells no refusal itself: where its companion
--- answers one, it hands back an empty part (`code-refused-told`).
+-- answers one, it hands back an empty part (`code-refused-told`). Refusals, frame and room are said of any table, sound or not; that the slots
+-- of other chains stay, of a sound one. No bound on the table's length is asked for.
 use mathlib.Core.Path.{_≡_, refl, sym, ap, ap₂, _∙_, subst}
 use mathlib.Core.Logic.{_≢_}
 use mathlib.Core.Bool.{Bool}
