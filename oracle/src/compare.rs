@@ -1,5 +1,5 @@
 //! The comparison, three ways: the model, the library, the Rust. After an accepted call the answers and every byte of the table must
-//! be the same in all three; after a refused one the library must answer as the model, and the Rust as `explain` foresees.
+//! be the same in all three; after a refused one the library must answer as the model, and the Rust must do, to the byte, what is foreseen.
 
 use crate::{
     explain::{explain, Explained},
