@@ -5,6 +5,7 @@
 
 mod compare;
 mod explain;
+mod foresee;
 #[cfg(station)]
 mod functions;
 mod make;
