@@ -1,7 +1,7 @@
 -- What demands 1 and 3 say of one call, said of the code: whatever call it performed, a refused one leaves table and output as they were
 -- (`code-refused-leaves`), nothing outside what a call may write changes (`code-framed`, `code-frame`, `code-keeps-others`), and 12 is answered
 -- exactly where the new slots needed exceed the free and the unused ones (`code-insert-room`, `code-replace-room` and `…-twelve`).
-use mathlib.Core.Path.{_≡_, refl, sym, ap, subst}
+use mathlib.Core.Path.{_≡_, sym, ap, subst}
 use mathlib.Core.Logic.{_≢_}
 use mathlib.Core.Bool.{Bool}
 use mathlib.Core.List.{List, [], _++_, headD}

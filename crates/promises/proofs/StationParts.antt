@@ -4,8 +4,8 @@ use Prim.{tt}
 use Prim.Native.Nat.{ℕ, zero, suc, _+_, _≤_, _<_}
 use native.Mathlib.Omega.{arith}
 use mathlib.Core.Path.{_≡_, refl, sym, ap, _∙_, subst}
-use mathlib.Core.Bool.{Bool, true, false, cond}
-use mathlib.Core.List.{List, []}
+use mathlib.Core.Bool.{Bool, cond}
+use mathlib.Core.List.{List}
 use mathlib.Core.Option.{Option}
 use lib.Dec.{eqb}
 use lib.ListN.{length, take, drop}
@@ -14,10 +14,10 @@ use denote.Ref.{RefT, now}
 use Rattle.definition.specs.declared.Settings.{Settings}
 use Rattle.definition.specs.Answers.{Answer, refusal, at, accepted, count, lastReference, found, content, members}
 use Rattle.definition.specs.Calls.{unless, checkedKey, contentStart, lookFixed, readFixed, findFixed}
-use Rattle.table.proofs.ReadLaws.{PartAt, fixed-part}
+use Rattle.table.proofs.ReadLaws.{fixed-part}
 use Rattle.station.specs.declared.answers.PyltarkaSettings.{PyltarkaSettings}
 use Rattle.station.specs.declared.answers.PyltarkaPart.{PyltarkaPart}
-use Rattle.station.specs.Forms.{settingsOf, told, partIn}
+use Rattle.station.specs.Forms.{settingsOf, told}
 use Rattle.station.proofs.pyltarka_read_fixed.Reads as read-fixed-code
 
 -- a refusal with a number above 0, or what a read tells: no other answer is one of the fixed read's companion
