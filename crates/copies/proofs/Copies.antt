@@ -1,7 +1,7 @@
 -- Parts of one list put side by side into another are one part put (`turn`), and so are parts that overlap (`again`): a copy in runs of any
 -- length is a copy.
 use mathlib.Core.Path.{_≡_, refl, sym, ap, _∙_}
-use mathlib.Core.List.{List, [], _∷_, _++_}
+use mathlib.Core.List.{List, _++_}
 use Prim.Native.Nat.{ℕ, suc, _+_, _-_, _≤_, _<_}
 use native.Mathlib.Numerals.{add-one}
 use native.Mathlib.Omega.{arith}

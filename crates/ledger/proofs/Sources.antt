@@ -2,7 +2,7 @@
 -- Once its tests have passed, on any table, sound or not, these slots lie from 1 up to FILLED, none is met twice, and FILLED afterwards lies
 -- within the capacity (`sourced`). One statement over the four calls: a change of the count finds the head alone and writes one part there.
 use mathlib.Core.Path.{_≡_, refl, ap, _∙_}
-use Prim.Native.Nat.{ℕ, _+_, _-_, _≤_}
+use Prim.Native.Nat.{ℕ, _-_, _≤_}
 use native.Mathlib.Nat.{sub-zero}
 use native.Mathlib.Omega.{arith}
 use native.Mathlib.Decide.{ℕ-discrete}

@@ -5,8 +5,8 @@ use Prim.{tt}
 use Prim.Native.Nat.{ℕ, zero, suc, _+_, _^_, _≤_, _<_}
 use native.Mathlib.Omega.{arith}
 use mathlib.Core.Path.{_≡_, refl, sym, ap, _∙_, subst}
-use mathlib.Core.Bool.{Bool, true, false, cond}
-use mathlib.Core.List.{List, []}
+use mathlib.Core.Bool.{Bool, cond}
+use mathlib.Core.List.{List}
 use mathlib.Core.Option.{Option}
 use lib.Dec.{eqb}
 use lib.ListN.{length, take, drop}
@@ -20,10 +20,10 @@ use Rattle.definition.specs.Sound.{Sound}
 use Rattle.definition.specs.Ledger.{ReadFixed, Look, ledgerStep}
 use Rattle.definition.specs.Run.{ledgerOf, run}
 use Rattle.ledger.proofs.OneCall.{call-agrees}
-use Rattle.table.proofs.ReadLaws.{PartAt, fixed-part}
+use Rattle.table.proofs.ReadLaws.{fixed-part}
 use Rattle.station.specs.declared.answers.PyltarkaSettings.{PyltarkaSettings}
 use Rattle.station.specs.declared.answers.PyltarkaPart.{PyltarkaPart}
-use Rattle.station.specs.Forms.{settingsOf, told, partIn}
+use Rattle.station.specs.Forms.{settingsOf, told}
 use Rattle.station.proofs.pyltarka_read_fixed.Reads as read-fixed-code
 
 -- a refusal with a number above 0, or what a read tells: no other answer is one of the fixed read's companion

@@ -17,7 +17,7 @@ mod tables;
 #[cfg(station)]
 fn main() {
     if !original::PRESENT {
-        println!("skipped: the Rust's files are not in ../shared/docs/src/src beside the repository, so there is nothing to compare with");
+        println!("skipped: the Rust's files are not in ../shared/docs/src, and PYLTARKA_RUST names no other folder: there is nothing to compare with");
         return;
     }
     let quick = std::env::args().any(|argument| argument == "--quick");
