@@ -7,9 +7,8 @@ ghost use Prim.Native.Nat.{_+_, _≤_, _<_};
 ghost use lib.ListN.{length, take, drop};
 ghost use Rattle.definition.specs.Numbers.{put};
 
-// The bytes of a block. glibc's memmove changes its way past some 2,100 bytes, for one that is slower where the two sides do not start alike
-// (docs/SPEED.md).
-const BLOCK: usize = 2048;
+// The bytes of a block. A part of a multipart table is no longer, and so one block.
+const BLOCK: usize = 4096;
 
 // Copies eight bytes of src, from `from` on, into dst at `to`.
 fn copy8(src: &[u8], from: usize, dst: &mut [u8], to: usize)
@@ -83,7 +82,7 @@ fn copy_ends(src: &[u8], from: usize, n: usize, dst: &mut [u8], to: usize)
 // Copies n bytes, a block at most, by way of an array. Nothing else reaches the array, so the compiler makes of the two loops one call
 // of memmove, which chooses its moves by the processor.
 fn copy_block(src: &[u8], from: usize, n: usize, dst: &mut [u8], to: usize)
-    requires { ⌜ (from + n ≤ length (now src)) × (to + n ≤ length (now dst)) × (n ≤ 2048) ⌝ }
+    requires { ⌜ (from + n ≤ length (now src)) × (to + n ≤ length (now dst)) × (n ≤ 4096) ⌝ }
     ensures { λ _. ⌜ now (dst .exit) ≡ put (now (dst .entry)) to (take n (drop from (now (src .entry)))) ⌝ }
 {
     let mut block = [0u8; BLOCK];
@@ -94,7 +93,7 @@ fn copy_block(src: &[u8], from: usize, n: usize, dst: &mut [u8], to: usize)
 // How many bytes the next block has, of those that are left.
 fn block_of(left: usize) -> usize
     requires { ⌜ 0 < left ⌝ }
-    ensures { λ r. ⌜ (0 < r) × (r ≤ left) × (r ≤ 2048) ⌝ }
+    ensures { λ r. ⌜ (0 < r) × (r ≤ left) × (r ≤ 4096) ⌝ }
 {
     if left < BLOCK { left } else { BLOCK }
 }
