@@ -1,23 +1,35 @@
-//! Builds the static library by `rt staticlib station` in the repository's root, and links it. Where PYLTARKA_LIB_DIR is set, the
-//! libstation.a in that folder is linked and nothing is built.
+//! Builds the static library by `library` in the repository's root, and links it. Where PYLTARKA_LIB_DIR is set, the libstation.a in
+//! that folder is linked and nothing is built.
 use std::env;
-use std::fs;
+use std::fs::{self, OpenOptions};
+use std::io::{BufRead, BufReader, Write};
 use std::path::{Path, PathBuf};
-use std::process::Command;
+use std::process::{Command, Stdio};
 
-/// Runs `rt staticlib station` in the root; answers the archive that it wrote.
+/// Runs `library` in the root; answers the archive that it wrote.
+///
+/// The proofs take minutes the first time, and what `library` says meanwhile goes to the terminal, line by line, if there is one. There
+/// is no other way to be seen in time: cargo keeps what a build script writes, and shows its `cargo::warning` lines only once the script
+/// has ended, and then at each later build too.
 fn proved_library(root: &Path) -> PathBuf {
-    let run = Command::new("rt").args(["staticlib", "station"]).current_dir(root).output();
-    let said = match run {
-        Ok(said) => said,
-        Err(why) => panic!("`rt staticlib station` cannot be run ({why}): the Rattle kit's rt must be on the PATH"),
+    let mut run = match Command::new(root.join("library")).stdout(Stdio::null()).stderr(Stdio::piped()).spawn() {
+        Ok(run) => run,
+        Err(why) => panic!("`library` in the repository's root cannot be run: {why}"),
     };
-    if !said.status.success() {
-        let out = String::from_utf8_lossy(&said.stdout);
-        let err = String::from_utf8_lossy(&said.stderr);
-        panic!("`rt staticlib station` failed:\n{out}{err}");
+    let mut terminal = OpenOptions::new().write(true).open("/dev/tty").ok();
+    let mut said = String::new();
+    for line in BufReader::new(run.stderr.take().unwrap()).split(b'\n').map_while(Result::ok) {
+        let line = String::from_utf8_lossy(&line) + "\n";
+        if let (Some(terminal), true) = (&mut terminal, line.starts_with("pyltarka: ")) {
+            // Over cargo's line of progress, which it draws again.
+            let _ = terminal.write_all(format!("\r\x1b[K{line}").as_bytes());
+        }
+        said += &line;
     }
-    root.join("target/staticlib/libstation.a")
+    match run.wait() {
+        Ok(status) if status.success() => root.join("target/staticlib/libstation.a"),
+        _ => panic!("the library cannot be built:\n{said}"),
+    }
 }
 
 fn main() {
@@ -31,8 +43,9 @@ fn main() {
             archive
         }
         Err(_) => {
-            println!("cargo:rerun-if-changed={}", root.join("crates").display());
-            println!("cargo:rerun-if-changed={}", root.join("crates.txt").display());
+            for made_from in ["library", "crates", "crates.txt"] {
+                println!("cargo:rerun-if-changed={}", root.join(made_from).display());
+            }
             proved_library(&root)
         }
     };

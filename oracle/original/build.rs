@@ -1,15 +1,32 @@
-//! Finds the original's files in the folder shared/ beside the repository, compares their bytes with ../original.sha256 and hands
-//! their places to the compiler. Nothing is copied. Without the folder the crate is built empty.
+//! Finds the original's files, compares their bytes with ../original.sha256 and hands their places to the compiler. Nothing is copied.
+//! They are in the folder that PYLTARKA_RUST names, a checkout of the original, or, where that is not set, in shared/docs/src beside the
+//! repository. Without the second the crate is built empty; a folder that was named and has no such files is an error.
 
-use std::{env, fs, path::PathBuf};
+use std::{
+    env, fs,
+    path::{Path, PathBuf},
+};
 
 #[path = "sha256.rs"]
 mod sha256;
 
+/// The folder with the original's files. A relative PYLTARKA_RUST is taken from the repository's root.
+fn sources(repository: &Path) -> PathBuf {
+    match env::var("PYLTARKA_RUST") {
+        Ok(named) if !named.is_empty() => {
+            let folder = repository.join(named).join("src");
+            assert!(folder.join("table.rs").exists(), "PYLTARKA_RUST: there is no table.rs in {}", folder.display());
+            folder
+        },
+        _ => repository.with_file_name("shared/docs/src/src"),
+    }
+}
+
 fn main() {
     let here = PathBuf::from(env::var("CARGO_MANIFEST_DIR").unwrap());
     let oracle = here.parent().unwrap();
-    let folder = oracle.parent().unwrap().parent().map(|beside| beside.join("shared/docs/src/src")).unwrap_or_default();
+    println!("cargo:rerun-if-env-changed=PYLTARKA_RUST");
+    let folder = sources(oracle.parent().unwrap());
     println!("cargo:rerun-if-changed={}", oracle.join("original.sha256").display());
     println!("cargo:rerun-if-changed={}", folder.display());
     println!("cargo:rustc-check-cfg=cfg(original)");

@@ -1,8 +1,9 @@
 //! The comparison, three ways: the model, the library, the Rust. After an accepted call the answers and every byte of the table must
-//! be the same in all three; after a refused one the library must answer as the model, and the Rust as `explain` foresees.
+//! be the same in all three; after a refused one the library must answer as the model, and the Rust must do, to the byte, what is foreseen.
 
 use crate::{
-    explain::{explain, Expect},
+    explain::{explain, Explained},
+    foresee::{Foreseen, Stop},
     model::{self, Answer, Call, Reading, Settings},
     station,
 };
@@ -29,8 +30,17 @@ pub struct Tally {
     pub rust: u64,
     /// refused calls by the entry of docs/DIFFERENCES.md that says what the Rust does; 0 is its table of answers
     pub entries: BTreeMap<u32, u64>,
+    /// the same by what the Rust comes to
+    pub outcomes: BTreeMap<&'static str, u64>,
     /// refused calls that the Rust was not asked
     pub not_asked: BTreeMap<u32, u64>,
+}
+
+/// Adds counts to counts.
+fn join<K: Copy + Ord>(into: &mut BTreeMap<K, u64>, from: &BTreeMap<K, u64>) {
+    for (k, n) in from {
+        *into.entry(*k).or_default() += n;
+    }
 }
 
 impl Tally {
@@ -38,16 +48,13 @@ impl Tally {
         self.calls += other.calls;
         self.accepted += other.accepted;
         self.rust += other.rust;
-        for (into, from) in
-            [(&mut self.refused, &other.refused), (&mut self.entries, &other.entries), (&mut self.not_asked, &other.not_asked)]
-        {
-            for (k, n) in from {
-                *into.entry(*k).or_default() += n;
-            }
-        }
+        join(&mut self.refused, &other.refused);
+        join(&mut self.entries, &other.entries);
+        join(&mut self.outcomes, &other.outcomes);
+        join(&mut self.not_asked, &other.not_asked);
     }
 
-    fn row(counts: &BTreeMap<u32, u64>) -> String {
+    fn row<K: std::fmt::Display>(counts: &BTreeMap<K, u64>) -> String {
         counts.iter().map(|(k, n)| format!("{k}: {n}")).collect::<Vec<_>>().join(", ")
     }
 
@@ -55,6 +62,7 @@ impl Tally {
         println!("  {} calls, {} accepted, {} answered by the Rust", self.calls, self.accepted, self.rust);
         println!("  refused, by number: {}", Tally::row(&self.refused));
         println!("  refused, by entry of docs/DIFFERENCES.md (0: its table of answers): {}", Tally::row(&self.entries));
+        println!("  refused, by what the Rust comes to: {}", Tally::row(&self.outcomes));
         println!("  refused, the Rust not asked, by entry: {}", Tally::row(&self.not_asked));
     }
 }
@@ -244,40 +252,45 @@ impl Bench {
     }
 
     fn refused(&mut self, call: &Call, number: u32) -> Result<(), String> {
-        let (entry, expect) = explain(&self.table, self.s, call, number);
-        if expect == Expect::NotAsked {
-            *self.tally.not_asked.entry(entry).or_default() += 1;
-            return Ok(());
-        }
-        *self.tally.entries.entry(entry).or_default() += 1;
-        self.tally.rust += 1;
-        let got = match self.open() {
-            Outcome::Is(()) => {
-                let rust = self.rust.as_mut().unwrap();
-                let got = rust_call(rust, self.s, call);
-                if !writes(call) && rust.bytes() != self.table {
-                    return Err("a read of the Rust's changed its table".into());
-                }
-                got
+        let (entry, seen) = match explain(&self.table, self.s, call, number) {
+            Explained::NotAsked(entry) => {
+                *self.tally.not_asked.entry(entry).or_default() += 1;
+                return Ok(());
             },
-            other => other.map(|()| unreachable!()),
+            Explained::OnNoList(seen) => return Err(format!("refused with {number}, and no entry says what is foreseen: {:?}", seen.got)),
+            Explained::Does(entry, seen) => (entry, seen),
         };
-        let mut judged = expect.judge(&got);
-        if let (Ok(()), Expect::UnreadableAt(slot)) = (&judged, &expect) {
-            let again = self.rust.as_ref().unwrap().read(*slot, if self.s.keyed { Query::Fetch } else { Query::NoKey });
-            if again != Outcome::Is(None) {
-                judged = Err("the short content can be read".into());
-            }
-        }
-        if let (Ok(()), Expect::Grows(_)) = (&judged, &expect) {
-            let len = self.rust.as_ref().unwrap().file_len() - self.table.len() as u64;
-            if len == 0 || !len.is_multiple_of(256 * 1024) {
-                judged = Err("the Rust's file has not grown by 262,144 bytes a time".into());
-            }
-        }
+        *self.tally.entries.entry(entry).or_default() += 1;
+        *self.tally.outcomes.entry(seen.word()).or_default() += 1;
+        self.tally.rust += 1;
+        let judged = self.as_foreseen(call, entry, seen);
         if writes(call) || judged.is_err() {
             self.rust = None;
         }
         judged.map_err(|m| format!("refused with {number}, entry {entry}: {m}"))
+    }
+
+    /// A refused call of the Rust's: its answer, its file, and after a failure what the next commit stores.
+    fn as_foreseen(&mut self, call: &Call, entry: u32, seen: Foreseen) -> Result<(), String> {
+        let opened = self.open();
+        let (Outcome::Is(()), Some(rust)) = (&opened, &mut self.rust) else { return seen.judge(&opened.map(|()| unreachable!())) };
+        seen.judge(&rust_call(rust, self.s, call))?;
+        if !writes(call) {
+            return if rust.bytes() == self.table { Ok(()) } else { Err("a read of the Rust's changed its table".into()) };
+        }
+        if !seen.same_file(&rust.file()) {
+            return Err(format!("the Rust's file is not as foreseen: {}", first_difference(&seen.file, &rust.file(), self.s)));
+        }
+        if let (3, Ok(Got::Slot(slot))) = (entry, &seen.got) {
+            let again = rust.read(*slot, if self.s.keyed { Query::Fetch } else { Query::NoKey });
+            return if again == Outcome::Is(None) { Ok(()) } else { Err("the short content can be read".into()) };
+        }
+        if let Err(Stop::Corruption(_)) = seen.got {
+            let settled = seen.settled();
+            if rust.commit(|_| Ok(())) != Outcome::Is(()) || !settled.same_file(&rust.file()) {
+                return Err("an empty commit after the failed call does not store what is foreseen".into());
+            }
+        }
+        Ok(())
     }
 }

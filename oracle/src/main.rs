@@ -5,6 +5,7 @@
 
 mod compare;
 mod explain;
+mod foresee;
 #[cfg(station)]
 mod functions;
 mod make;
@@ -198,7 +199,7 @@ fn record(folder: PathBuf) -> Result<(), String> {
 
 fn say_what_is_absent() {
     if !original::PRESENT {
-        println!("skipped: the Rust; its files are not in ../shared/docs/src/src beside the repository");
+        println!("skipped: the Rust; its files are not in ../shared/docs/src, and PYLTARKA_RUST names no other folder");
     }
     if !station::PRESENT {
         println!("skipped: the library; target/staticlib/libstation.a was not there when the oracle was built");

@@ -238,7 +238,9 @@ fn any_slot(r: &mut Random, s: Settings, table: &[u8]) -> u64 {
     }
     let capacity = table.len() as u64 / s.size.max(1);
     if r.once_in(20) {
-        return r.pick(&[1 << 32, 1 << 52, u64::MAX, u64::MAX / 32 + 2]);
+        // Far off: to the last slot of a file that the Rust grows once, past it, and where the product with E overflows.
+        let grown = (table.len() as u64 + 262_144) / s.size.max(1);
+        return r.pick(&[grown.saturating_sub(1), grown, 1 << 32, 1 << 52, u64::MAX, u64::MAX / 32 + 2]);
     }
     r.below(capacity + 2)
 }

@@ -1,7 +1,7 @@
 -- Parts of one list put side by side into another are one part put (`turn`), and so are parts that overlap (`again`): a copy in runs of any
 -- length is a copy.
 use mathlib.Core.Path.{_≡_, refl, sym, ap, _∙_}
-use mathlib.Core.List.{List, [], _∷_, _++_}
+use mathlib.Core.List.{List, _++_}
 use Prim.Native.Nat.{ℕ, suc, _+_, _-_, _≤_, _<_}
 use native.Mathlib.Numerals.{add-one}
 use native.Mathlib.Omega.{arith}
@@ -10,7 +10,7 @@ use lib.Seq.{take-add, take-at, drop-at, drop-drop, drop-cons, set-split, append
 use Rattle.definition.specs.Numbers.{bytes, num, over, put}
 use Rattle.laws.proofs.Bytes.{AllBytes, bytes-num}
 use Rattle.laws.proofs.Lists.{length-part}
-use Rattle.laws.proofs.Puts.{put-is, put-none, put-next, length-put}
+use Rattle.laws.proofs.Puts.{put-is, put-front, put-none, put-next, length-put}
 
 -- i bytes were put, and the next k after them
 pub turn : (s d x y : List ℕ) (from to i k : ℕ) → from + i + k ≤ length s → to + i + k ≤ length d
@@ -119,13 +119,11 @@ last-run s d x y from to n i k p q h f g e₁ e₂ =
     let e : n - k + k ≡ n = omega arith in
     rw e at (again s d x y from to i (n - k) k (omega arith) (omega arith) (omega arith) (omega arith) e₁ e₂)
 
--- the first 32 of n bytes, a run from the k-th on, the last 32
-pub long-run : (s d x y z : List ℕ) (from to n k a : ℕ) → from + n ≤ length s → to + n ≤ length d → 64 ≤ n → k ≤ 32
-    → x ≡ put d to (take 32 (drop from s))
-    → (a ≤ n - k) × (n - k < a + 32) × (y ≡ put x (to + k) (take a (drop (from + k) s)))
-    → z ≡ put y (to + (n - 32)) (take 32 (drop (from + (n - 32)) s)) → z ≡ put d to (take n (drop from s))
-long-run s d x y z from to n k a p q h f e₁ run e₃ =
-    let most : a ≤ n - k = run .0 in
-    let least : n - k < a + 32 = run .1 in
-    last-run s d y z from to n (k + a) 32 p q (omega arith) (omega arith) (omega arith)
-    (again s d x y from to 32 k a (omega arith) (omega arith) f (omega arith) e₁ (run .2)) e₃
+-- n bytes put at the front of a block, and from there into d
+pub through : (s d b x y : List ℕ) (from to n : ℕ) → from + n ≤ length s
+    → x ≡ put b 0 (take n (drop from s)) → y ≡ put d to (take n (drop 0 x)) → y ≡ put d to (take n (drop from s))
+unfolding over
+through s d b x y from to n p e g =
+    let part = take n (drop from s) in
+    g ∙ ap (λ (l : List ℕ). put d to (take n (drop 0 l))) (e ∙ put-front b part)
+    ∙ ap (put d to) (take-at part (drop (length part) b) n (length-part s from n p))

@@ -1,10 +1,14 @@
-// A part of a slice copied into a part of another, by words: no byte loop of the compiler's runs as fast on every length.
+// A part of a slice copied into a part of another: a short one by words, a longer one by blocks, of which the compiler makes calls of
+// memmove. A loop of its own moves 16 bytes a store, since it serves every x86-64.
 use numbers::read_u64;
 use numbers::write_u64;
 ghost use mathlib.Core.Path.{_≡_};
 ghost use Prim.Native.Nat.{_+_, _≤_, _<_};
 ghost use lib.ListN.{length, take, drop};
 ghost use Rattle.definition.specs.Numbers.{put};
+
+// The bytes of a block. A part of a multipart table is no longer, and so one block.
+const BLOCK: usize = 4096;
 
 // Copies eight bytes of src, from `from` on, into dst at `to`.
 fn copy8(src: &[u8], from: usize, dst: &mut [u8], to: usize)
@@ -28,19 +32,6 @@ fn copy32(src: &[u8], from: usize, dst: &mut [u8], to: usize)
     write_u64(dst, to + 8, b);
     write_u64(dst, to + 16, c);
     write_u64(dst, to + 24, d);
-}
-
-// Copies as many of n bytes as make whole runs of 32, and answers how many.
-fn run32(src: &[u8], from: usize, n: usize, dst: &mut [u8], to: usize) -> usize
-    requires { ⌜ (from + n ≤ length (now src)) × (to + n ≤ length (now dst)) ⌝ }
-    ensures { λ r. ⌜ (r ≤ n) × (n < r + 32) × (now (dst .exit) ≡ put (now (dst .entry)) to (take r (drop from (now (src .entry))))) ⌝ }
-{
-    let mut i = 0;
-    while 32 <= n - i {
-        copy32(src, from + i, dst, to + i);
-        i += 32;
-    }
-    i
 }
 
 // Copies as many of n bytes as make whole runs of 8, and answers how many.
@@ -88,17 +79,36 @@ fn copy_ends(src: &[u8], from: usize, n: usize, dst: &mut [u8], to: usize)
     copy32(src, from + last, dst, to + last);
 }
 
-// Copies n bytes, 64 at least: the first 32, then by 32 from the next place in dst that is a multiple of 32, then the last 32. Stores
-// that straddle two lines of the cache cost twice.
-fn copy_long(src: &[u8], from: usize, n: usize, dst: &mut [u8], to: usize)
-    requires { ⌜ (from + n ≤ length (now src)) × (to + n ≤ length (now dst)) × (64 ≤ n) ⌝ }
+// Copies n bytes, a block at most, by way of an array. Nothing else reaches the array, so the compiler makes of the two loops one call
+// of memmove, which chooses its moves by the processor.
+fn copy_block(src: &[u8], from: usize, n: usize, dst: &mut [u8], to: usize)
+    requires { ⌜ (from + n ≤ length (now src)) × (to + n ≤ length (now dst)) × (n ≤ 4096) ⌝ }
     ensures { λ _. ⌜ now (dst .exit) ≡ put (now (dst .entry)) to (take n (drop from (now (src .entry)))) ⌝ }
 {
-    copy32(src, from, dst, to);
-    let k = 32 - to % 32;
-    run32(src, from + k, n - k, dst, to + k);
-    let last = n - 32;
-    copy32(src, from + last, dst, to + last);
+    let mut block = [0u8; BLOCK];
+    run1(src, from, n, &mut block, 0);
+    run1(&block, 0, n, dst, to);
+}
+
+// How many bytes the next block has, of those that are left.
+fn block_of(left: usize) -> usize
+    requires { ⌜ 0 < left ⌝ }
+    ensures { λ r. ⌜ (0 < r) × (r ≤ left) × (r ≤ 4096) ⌝ }
+{
+    if left < BLOCK { left } else { BLOCK }
+}
+
+// Copies n bytes by blocks.
+fn copy_blocks(src: &[u8], from: usize, n: usize, dst: &mut [u8], to: usize)
+    requires { ⌜ (from + n ≤ length (now src)) × (to + n ≤ length (now dst)) ⌝ }
+    ensures { λ _. ⌜ now (dst .exit) ≡ put (now (dst .entry)) to (take n (drop from (now (src .entry)))) ⌝ }
+{
+    let mut i = 0;
+    while i < n {
+        let k = block_of(n - i);
+        copy_block(src, from + i, k, dst, to + i);
+        i += k;
+    }
 }
 
 // Copies n bytes of src, from `from` on, into dst at `to`.
@@ -118,5 +128,5 @@ pub fn copy(src: &[u8], from: usize, n: usize, dst: &mut [u8], to: usize)
         copy_ends(src, from, n, dst, to);
         return;
     }
-    copy_long(src, from, n, dst, to);
+    copy_blocks(src, from, n, dst, to);
 }

@@ -1,6 +1,6 @@
 -- Chains: the head's tests, the walk over the parts, and what a chain holds. Document 01, "Numbers the station sees",
 -- refusals 8, 9 and 10 and the paragraph on the order of the checks. All tests read marks, sizes, links, counts and keys, never content.
-use Prim.Native.Nat.{ℕ, zero, suc, _+_, _-_}
+use Prim.Native.Nat.{ℕ, zero, suc, _-_}
 use mathlib.Core.Bool.{Bool, true, false, cond, _&&_, _||_, not}
 use mathlib.Core.List.{List, [], _∷_, _++_}
 use mathlib.Core.Option.{Option, none, some}

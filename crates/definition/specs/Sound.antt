@@ -1,8 +1,6 @@
--- A sound table. Document 01, "A chain starts at every slot below FILLED ..": settings, length, header and free list meet none of 1, 2,
--- 3 and 11, and every chain is well formed. That, besides, every slot in use is on the free list once or in one chain once is how we
--- read that paragraph, the word "partition" in "How tight the contracts are", and what an audit of a table is asked to find: a slot on
--- two chains, or one in no chain and not on the free list. It is said as a count of owners; the theorems show that the count and the
--- sentence are the same.
+-- A sound table. Demand 3: each slot from 1 up to FILLED is on the free list once or in one chain once, never both. Document 01, "A chain
+-- starts at every slot below FILLED ..": settings, length, header and free list meet none of 1, 2, 3 and 11, and every chain is well
+-- formed. The demand's sentence is said as a count of owners; the theorems show that the count and the sentence are the same.
 use mathlib.Core.Path.{_≡_}
 use Prim.Native.Nat.{ℕ, _+_, _-_, _<_}
 use mathlib.Core.Bool.{Bool, true, cond, _&&_}

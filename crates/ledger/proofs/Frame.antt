@@ -1,9 +1,9 @@
 -- The frame. On any table, sound or not, a call that writes changes no byte but those in its stores' places, and none where it is refused
 -- (`framed`); so no call changes the table's length, nor a byte after the last whole slot, nor slot 0 past its first 16 bytes (`frame`).
--- On a sound table no call changes a byte in a slot of another chain (`others-kept`).
+-- In which slots these places are, and how long, is said in Spared.
 use mathlib.Core.Path.{_≡_, refl, sym, ap, _∙_}
 use mathlib.Core.Logic.{_≢_}
-use Prim.Native.Nat.{ℕ, zero, suc, _+_, _-_, _*_, _/_, _^_, _≤_, _<_, min}
+use Prim.Native.Nat.{ℕ, zero, suc, _+_, _-_, _*_, _/_, _≤_, _<_, min}
 use native.Mathlib.Nat.{div-lt-iff-lt-mul, mul-le-mul-right, suc-mul}
 use native.Mathlib.Omega.{arith}
 use native.Mathlib.Decide.{decLt, ℕ-discrete}
@@ -12,17 +12,14 @@ use lib.ListN.{length, take, drop, getD, length-take, length-drop}
 use lib.Seq.{take-all, take-length, getD-take, getD-drop, ext-getD}
 use Rattle.definition.specs.declared.Settings.{Settings}
 use Rattle.definition.specs.Tests.{first}
-use Rattle.definition.specs.Settings.{linkBytes}
 use Rattle.definition.specs.Slots.{view, Store, store}
 use Rattle.definition.specs.Answers.{Answer}
 use Rattle.definition.specs.Calls.{capacity, unless, Writing, Decision, decision, carryOut, write}
-use Rattle.definition.specs.Sound.{occ, chainAt, Sound}
-use Rattle.definition.specs.Ledger.{Call, Write, Look, target}
-use Rattle.definition.specs.Run.{ledgerOf, run}
+use Rattle.definition.specs.Ledger.{Call, Write, Look}
+use Rattle.definition.specs.Run.{run}
 use Rattle.laws.proofs.Views.{apart, view-zero, Fits, length-store}
 use Rattle.laws.proofs.Untouched.{Untouched, store-keeps}
-use Rattle.ledger.proofs.Laid.{Spares, Laid, laid}
-use Rattle.ledger.proofs.OneCall.{call-agrees}
+use Rattle.ledger.proofs.Laid.{Short, Laid, laid}
 
 -- ---- the frame of a call that writes
 
@@ -34,7 +31,8 @@ pub record Framed (s : Settings) (d : Decision) (t u : List ℕ) : Type 0 where
   -- where none does, each byte that lies in no store's place
   pub untouched : first (d .tests) ≡ 0 → (p : ℕ) → Untouched (s .size) (d .stores) p → getD u p 0 ≡ getD t p 0
 
-unless-left : (n : ℕ) (t : List ℕ) (out : Answer × List ℕ) → (n ≢ 0 → unless n t out .1 ≡ t) × (n ≡ 0 → unless n t out .1 ≡ out .1)
+-- what a refused call leaves, and one that is not
+pub unless-left : (n : ℕ) (t : List ℕ) (out : Answer × List ℕ) → (n ≢ 0 → unless n t out .1 ≡ t) × (n ≡ 0 → unless n t out .1 ≡ out .1)
 unfolding unless
 unless-left zero t out = ((λ ne. absurd (ne refl)), (λ e. refl))
 unless-left (suc n) t out = ((λ ne. refl), (λ e. absurd (omega arith)))
@@ -88,7 +86,7 @@ past-slots : (E L : ℕ) (ws : List Store) → 0 < E → Fits E L ws → (p : �
 past-slots E L [] z h p b = tt
 past-slots E L (w ∷ ws) z h p b = ((λ q. omega (arith, h .0, slot-ends E L (w .0) z (h .1))), past-slots E L ws z (h .2) p b)
 
-past-header : (E : ℕ) (ws : List Store) → Spares ws → (p : ℕ) → 16 ≤ p → p < E → Untouched E ws p
+past-header : (E : ℕ) (ws : List Store) → Short 16 0 ws → (p : ℕ) → 16 ≤ p → p < E → Untouched E ws p
 past-header E [] h p a b = tt
 past-header E (w ∷ ws) h p a b = (go (ℕ-discrete (w .0) 0), past-header E ws (h .1) p a b)
   where
@@ -121,8 +119,3 @@ pub frame : (s : Settings) (c : Call) (t : List ℕ) → Kept s t (run s c t .af
 unfolding run
 frame s (Write w) t = carried-kept s (decision s w t) t _ (laid s w t) (framed s w t)
 frame s (Look c) t = kept-same s t
-
--- on a sound table: no byte in a slot of a chain other than the one that the call is about
-pub others-kept : (s : Settings) (c : Call) (t : List ℕ) → Sound s t → length t < 256 ^ linkBytes → (j : ℕ) → j ≢ target s c (ledgerOf s t)
-    → (i : ℕ) → 0 < occ i (chainAt s (view (s .size) t) j) → view (s .size) (run s c t .after) i ≡ view (s .size) t i
-others-kept s c t k bound j ne i m = call-agrees s c t k bound .keeps j ne i m

@@ -1,6 +1,6 @@
 -- Refused: on any table, sound or not, a refused call leaves the table and the output as they were and answers its number, all else empty
 -- (`refused-leaves`). One statement over all calls. The fixed read hands back a part of the table and no number: it is refused where its
--- companion is, and then the part is empty.
+-- companion is, and then the part is empty. Said by the call's own answer: `refused-itself`.
 use mathlib.Core.Path.{_≡_, refl, ap}
 use Prim.Native.Nat.{ℕ, zero, suc, _<_}
 use native.Mathlib.Omega.{arith}
@@ -81,3 +81,12 @@ refused-leaves s (Look (Read k h out)) t n e = ap (λ (r : Answer × List ℕ). 
 refused-leaves s (Look (ReadFixed k h)) t n e = ap (λ (r : Answer × List ℕ). told t (content (r .1), [])) (unless-refused _ [] _ n (found-granted _ _ _ _) e .0)
 refused-leaves s (Look (FindFixed k h)) t n e = ap (λ (r : Answer × List ℕ). told t (r .0, [])) (unless-refused _ [] _ n (found-granted _ _ _ _) e .0)
 refused-leaves s (Look FreeCount) t n e = ap (λ (a : Answer). told t (a, [])) e
+
+-- by its own answer; the fixed read's is never a refusal
+pub refused-itself : (s : Settings) (c : Call) (t : List ℕ) (n : ℕ) → run s c t .answer ≡ refusal n → run s c t ≡ refusedWith n c t
+unfolding teller run
+refused-itself s (Write w) t n e = refused-leaves s (Write w) t n e
+refused-itself s (Look (Read k h out)) t n e = refused-leaves s (Look (Read k h out)) t n e
+refused-itself s (Look (ReadFixed k h)) t n e = absurd (let z : _≡_ {A = ℕ} 0 1 = cc in omega arith)
+refused-itself s (Look (FindFixed k h)) t n e = refused-leaves s (Look (FindFixed k h)) t n e
+refused-itself s (Look FreeCount) t n e = refused-leaves s (Look FreeCount) t n e

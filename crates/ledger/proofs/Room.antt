@@ -23,7 +23,7 @@ use Rattle.definition.specs.Answers.{Answer, refusal, at, accepted}
 use Rattle.definition.specs.Calls.{capacity, roomTest, unless, Supply, supplyOf, Writing, Insert, Replace, decide, insert, replace}
 use Rattle.laws.proofs.Tests.{refuse-yes, refuse-no, first-past, first-one}
 use Rattle.ledger.proofs.Refused.{unless-refused, at-granted, accepted-granted}
-use Rattle.ledger.proofs.Numbers.{Each, end, also, first-is, table-then, value-then, chain-then, free-is}
+use Rattle.ledger.proofs.Numbers.{end, also, first-is, table-then, value-then, chain-then, free-is}
 
 -- the slots that a writer may take: the free ones, and the unused ones at the end
 unfoldable pub spare : Settings → List ℕ → ℕ

@@ -1,5 +1,6 @@
 -- Demand 3, any sequence: from a sound table any list of calls gives a sound table, whose ledger is the one that the ledger's steps give,
--- and each call in turn answers as the ledger does, with the same output (`sequence-agrees`).
+-- and each call in turn answers as the ledger does, with the same output (`sequence-agrees`). All calls are made under one set of settings,
+-- and the table is shorter than 2 ^ 64 bytes.
 use mathlib.Core.Path.{_≡_, refl, ap₂, _∙_}
 use Prim.Native.Nat.{ℕ, _^_, _<_}
 use mathlib.Core.List.{List, [], _∷_}

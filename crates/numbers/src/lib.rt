@@ -2,7 +2,7 @@
 // Of a slot it knows only that its mark stands first.
 ghost use mathlib.Core.Path.{_≡_};
 ghost use mathlib.Core.List.{[], _∷_};
-ghost use Prim.Native.Nat.{_+_, _≤_, _<_};
+ghost use Prim.Native.Nat.{_+_, _≤_};
 ghost use lib.ListN.{length, getD};
 ghost use Rattle.definition.specs.Numbers.{bytes, num, put};
 ghost use Rattle.definition.specs.Slots.{marked};

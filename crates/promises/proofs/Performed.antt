@@ -30,7 +30,7 @@ use Rattle.table.proofs.find_fixed.Reads as find-fixed-code
 use Rattle.table.proofs.free_count.Reads as free-count-code
 
 -- bytes that are lent
-abbrev Lent : Type 0
+abbrev pub Lent : Type 0
 Lent = RefT (List ℕ)
 
 pub data Performed (s : Settings) : Type 0 where

@@ -1,11 +1,12 @@
 -- The C function of the fixed read answers a place in the caller's table: the bytes there are the content that the fixed read hands back
--- (`part-is-content`), and they lie within the table (`part-inside`).
+-- (`part-is-content`), and they lie within the table (`part-inside`). On a sound table they are the content that the plain ledger answers
+-- (`part-is-ledgers`).
 use Prim.{tt}
-use Prim.Native.Nat.{ℕ, zero, suc, _+_, _≤_, _<_}
+use Prim.Native.Nat.{ℕ, zero, suc, _+_, _^_, _≤_, _<_}
 use native.Mathlib.Omega.{arith}
 use mathlib.Core.Path.{_≡_, refl, sym, ap, _∙_, subst}
-use mathlib.Core.Bool.{Bool, true, false, cond}
-use mathlib.Core.List.{List, []}
+use mathlib.Core.Bool.{Bool, cond}
+use mathlib.Core.List.{List}
 use mathlib.Core.Option.{Option}
 use lib.Dec.{eqb}
 use lib.ListN.{length, take, drop}
@@ -13,11 +14,16 @@ use contract.Lifetimes.{Lfts}
 use denote.Ref.{RefT, now}
 use Rattle.definition.specs.declared.Settings.{Settings}
 use Rattle.definition.specs.Answers.{Answer, refusal, at, accepted, count, lastReference, found, content, members}
-use Rattle.definition.specs.Calls.{unless, checkedKey, contentStart, lookFixed, readFixed, findFixed}
-use Rattle.table.proofs.ReadLaws.{PartAt, fixed-part}
+use Rattle.definition.specs.Settings.{linkBytes}
+use Rattle.definition.specs.Calls.{capacity, unless, checkedKey, contentStart, lookFixed, readFixed, findFixed}
+use Rattle.definition.specs.Sound.{Sound}
+use Rattle.definition.specs.Ledger.{ReadFixed, Look, ledgerStep}
+use Rattle.definition.specs.Run.{ledgerOf, run}
+use Rattle.ledger.proofs.OneCall.{call-agrees}
+use Rattle.table.proofs.ReadLaws.{fixed-part}
 use Rattle.station.specs.declared.answers.PyltarkaSettings.{PyltarkaSettings}
 use Rattle.station.specs.declared.answers.PyltarkaPart.{PyltarkaPart}
-use Rattle.station.specs.Forms.{settingsOf, told, partIn}
+use Rattle.station.specs.Forms.{settingsOf, told}
 use Rattle.station.proofs.pyltarka_read_fixed.Reads as read-fixed-code
 
 -- a refusal with a number above 0, or what a read tells: no other answer is one of the fixed read's companion
@@ -69,3 +75,9 @@ module _ (κ : Lfts 2) (table : RefT (List ℕ)) (s : PyltarkaSettings) (h : ℕ
 
   pub part-is-content : take (r .length) (drop (r .offset) (now table)) ≡ readFixed (settingsOf s) (checkedKey checked (now key)) h (now table)
   part-is-content = both .1
+
+  pub part-is-ledgers : Sound (settingsOf s) (now table) → length (now table) < 256 ^ linkBytes
+      → content (take (r .length) (drop (r .offset) (now table)))
+      ≡ ledgerStep (settingsOf s) (capacity (settingsOf s) (now table)) (Look (ReadFixed (checkedKey checked (now key)) h)) (ledgerOf (settingsOf s) (now table)) .answer
+  unfolding run
+  part-is-ledgers k bound = ap content part-is-content ∙ call-agrees (settingsOf s) (Look (ReadFixed (checkedKey checked (now key)) h)) (now table) k bound .answers

@@ -1,9 +1,14 @@
 -- Tight: no contract admits two outcomes. Of any two performances of a call, with the same arguments on tables of the same bytes, answer,
 -- table and output coincide (`tight`); and an answer is one case of the code's enum (`…-one`), so the code's own answers coincide.
-use Prim.Native.Nat.{ℕ}
+-- Two fixed reads of one lent table hand back one part of it, from the same place on (`same-part`).
+use Prim.{tt}
+use Prim.Native.Nat.{ℕ, _+_}
 use mathlib.Core.Path.{_≡_, refl, sym, ap, ap₂, _∙_}
 use mathlib.Core.Bool.{Bool, cond}
 use lib.Dec.{eqb}
+use mathlib.Core.List.{List}
+use contract.Lifetimes.{Lfts}
+use denote.Ref.{now}
 use Rattle.definition.specs.declared.Settings.{Settings}
 use Rattle.definition.specs.declared.Refusal.{Refusal}
 use Rattle.definition.specs.declared.Refusal.the-variants.{Settings as BadSettings, Buffer, Header, Key, Uncounted, Value, Slot, Absent, Size, Chain, FreeList, Room, Output}
@@ -14,11 +19,24 @@ use Rattle.definition.specs.declared.Found.{Found}
 use Rattle.definition.specs.declared.FreeCount.{FreeCount}
 use Rattle.definition.specs.Tests.{numberOf}
 use Rattle.definition.specs.Answers.{Answer, refusal, at, accepted, count, lastReference, found, content, members, insertedOf, writtenOf, changedOf, foundOf, freeCountOf}
+use Rattle.definition.specs.Calls.{checkedKey, partStart, readFixed}
 use Rattle.definition.specs.Run.{run}
-use Rattle.promises.proofs.Performed.{Performed, callOf, startOf, outcomeOf, performed-is}
+use Rattle.table.proofs.read_fixed.Reads as read-fixed-code
+use Rattle.promises.proofs.Performed.{Lent, Performed, callOf, startOf, outcomeOf, performed-is}
 
 pub tight : {s : Settings} (p q : Performed s) → callOf p ≡ callOf q → startOf p ≡ startOf q → outcomeOf p ≡ outcomeOf q
 tight {s} p q c t = performed-is p ∙ ap₂ (run s) c t ∙ sym (performed-is q)
+
+-- the parts r and q that two fixed reads hand back, the table lent being one and the keys of the same bytes: one block of memory, one place
+-- in it, the same bytes and so as many. What else a reference has is its name in the proofs, which no program sees
+pub same-part : (s : Settings) (table : Lent) (h : ℕ) (checked : Bool) (κ μ : Lfts 2) (key other r q : Lent) → now key ≡ now other
+    → read-fixed-code.Post κ (table, (s, (h, (checked, (key, tt))))) r (table, (s, (h, (checked, (key, tt)))))
+    → read-fixed-code.Post μ (table, (s, (h, (checked, (other, tt))))) q (table, (s, (h, (checked, (other, tt))))) → (r .ptr ≡ q .ptr) × (now r ≡ now q)
+same-part s table h checked κ μ key other r q k e f = (
+  ap₂ (λ (block place : ℕ). (block, place)) (e .1 .0 ∙ sym (f .1 .0))
+      (e .1 .1 ∙ ap (λ (b : List ℕ). table .ptr .1 + partStart s (checkedKey checked b) h (now table)) k ∙ sym (f .1 .1)),
+  e .0 ∙ ap (λ (b : List ℕ). readFixed s (checkedKey checked b) h (now table)) k ∙ sym (f .0),
+)
 
 -- ---- the code's enums: each answer is one case
 

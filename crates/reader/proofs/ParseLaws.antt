@@ -1,6 +1,6 @@
 -- The parse of a head and of a later part: each way out, with the tests that lead there.
 use mathlib.Core.Path.{_≡_, refl, sym, ap, ap₂, _∙_}
-use mathlib.Core.Bool.{Bool, true, false, cond, _&&_, _||_, not}
+use mathlib.Core.Bool.{Bool, true, false, _&&_, _||_, not}
 use mathlib.Core.List.{List, [], _∷_}
 use mathlib.Core.Option.{Option}
 use Prim.Native.Nat.{ℕ, zero, suc, _-_, _≤_, _<_}
@@ -9,10 +9,9 @@ use lib.Dec.{eqb, ltb}
 use borrow.Author.Tests.{lt-ltb, le-ltb}
 use Rattle.definition.specs.declared.Settings.{Settings}
 use Rattle.definition.specs.declared.Refusal.{Refusal}
-use Rattle.definition.specs.declared.PartKind.{PartKind}
 use Rattle.definition.specs.declared.PartKind.the-variants.{Head, Continuation, Last}
 use Rattle.definition.specs.Tests.{numberOf, refuse, first}
-use Rattle.definition.specs.Settings.{prefixLen, headOverhead, linkOverhead}
+use Rattle.definition.specs.Settings.{prefixLen, headOverhead}
 use Rattle.definition.specs.Slots.{isFree, isContinuation, isHead, sizeOf, headLink, linkOf, starts, countOf}
 use Rattle.definition.specs.Chains.{Parse, refused, part, unlessRefused, keyDiffers, headFault, startPart, headParse, lastFault, laterParse}
 use Rattle.laws.proofs.Conditions.{cond-yes, cond-no, or-no, or-left, or-right}

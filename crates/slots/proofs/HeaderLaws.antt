@@ -1,13 +1,12 @@
 -- The header is the table's first 16 bytes, seen through slot 0.
-use mathlib.Core.Path.{_≡_, refl, sym, ap, _∙_}
+use mathlib.Core.Path.{_≡_, sym, ap, _∙_}
 use mathlib.Core.Bool.{false, cond}
-use mathlib.Core.List.{List, _++_}
-use Prim.Native.Nat.{ℕ, _+_, _*_, _≤_}
+use mathlib.Core.List.{List}
+use Prim.Native.Nat.{ℕ, _+_, _≤_}
 use native.Mathlib.Omega.{arith}
 use lib.Dec.{eqb}
 use lib.ListN.{length}
 use Rattle.definition.specs.declared.Settings.{Settings}
-use Rattle.definition.specs.declared.Header.{Header}
 use Rattle.definition.specs.Numbers.{bytes, num, put}
 use Rattle.definition.specs.Settings.{badSettings}
 use Rattle.definition.specs.Slots.{view, lastRemoved, filled, headerOf}

@@ -1,10 +1,9 @@
 -- The partial key: compared by words it is the same exactly where its 26 bytes are, and the prefix of a new record is what the
 -- writer lays down of it.
 use mathlib.Core.Path.{_≡_, refl, sym, ap, ap₂, _∙_}
-use mathlib.Core.Bool.{Bool, true, false, cond, _&&_, not}
-use mathlib.Core.List.{List, [], _∷_, _++_, append-nil}
-use mathlib.Core.Option.{none, some}
-use Prim.Native.Nat.{ℕ, _+_, _-_, _≤_, _<_}
+use mathlib.Core.Bool.{Bool, true, false, _&&_, not}
+use mathlib.Core.List.{List, [], _++_, append-nil}
+use Prim.Native.Nat.{ℕ, _+_, _-_, _≤_}
 use native.Mathlib.Omega.{arith}
 use lib.Dec.{eqb}
 use lib.ListN.{length, take, drop, length-append}
@@ -23,7 +22,7 @@ use Rattle.laws.proofs.Conditions.{Which, which, isYes, isNo, yes-no, cond-yes,
 use Rattle.laws.proofs.Tests.{passed}
 use Rattle.laws.proofs.Lists.{drop-take, length-part}
 use Rattle.laws.proofs.Bytes.{AllBytes, num-same, length-bytes}
-use Rattle.laws.proofs.Puts.{put-front, put-next}
+use Rattle.laws.proofs.Puts.{put-next}
 use Rattle.laws.proofs.Marks.{sameBytes-refl, sameBytes-eq}
 use Rattle.laws.proofs.Overheads.{start-fits}
 

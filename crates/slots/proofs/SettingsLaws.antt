@@ -1,12 +1,12 @@
 -- The settings test, each way that it goes.
-use mathlib.Core.Path.{_≡_, refl, sym, ap, _∙_}
+use mathlib.Core.Path.{_≡_, sym, ap, _∙_}
 use mathlib.Core.Bool.{Bool, true, false, _&&_, _||_, not}
-use Prim.Native.Nat.{ℕ, _≤_, _<_}
+use Prim.Native.Nat.{_≤_, _<_}
 use lib.Dec.{eqb, ltb}
 use borrow.Author.Tests.{lt-ltb, le-ltb}
 use Rattle.definition.specs.declared.Settings.{Settings}
 use Rattle.definition.specs.Settings.{badSettings}
-use Rattle.laws.proofs.Conditions.{or-left, or-skip, or-no, and-left}
+use Rattle.laws.proofs.Conditions.{or-left, or-skip, and-left}
 
 module _ (s : Settings) where
   pub bad-small : s .size < 32 → true ≡ badSettings s

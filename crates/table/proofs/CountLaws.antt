@@ -15,7 +15,7 @@ use Rattle.definition.specs.declared.FreeCount.{FreeCount}
 use Rattle.definition.specs.Numbers.{bytes, put}
 use Rattle.definition.specs.Tests.{numberOf, first}
 use Rattle.definition.specs.Settings.{startOverhead, badSettings}
-use Rattle.definition.specs.Slots.{view, filled, store}
+use Rattle.definition.specs.Slots.{view, store}
 use Rattle.definition.specs.FreeList.{freeFrom, freeList}
 use Rattle.definition.specs.Chains.{headFault}
 use Rattle.definition.specs.Answers.{Answer, refusal, count, lastReference, members, freeCountOf}

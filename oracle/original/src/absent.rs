@@ -48,6 +48,10 @@ impl Table {
         match self.0 {}
     }
 
+    pub fn file(&self) -> Vec<u8> {
+        match self.0 {}
+    }
+
     pub fn file_len(&self) -> u64 {
         match self.0 {}
     }

@@ -59,6 +59,7 @@ fn run<T>(call: impl FnOnce() -> Result<T>) -> Outcome<T> {
         Err(payload) => match payload.downcast_ref::<Stopped>() {
             Some(Stopped::PastFile) => Outcome::PastFile,
             Some(Stopped::Endless) => Outcome::Endless,
+            Some(Stopped::TooLong) => Outcome::TooLong,
             None => Outcome::Panic(
                 payload
                     .downcast_ref::<String>()
@@ -120,6 +121,11 @@ impl Table {
     /// The table's bytes: the file's front, as long as the table was when it was opened.
     pub fn bytes(&self) -> &[u8] {
         self.view.as_ref().map_or(&[], |view| &view.all()[..self.len])
+    }
+
+    /// The whole file as it is now.
+    pub fn file(&self) -> Vec<u8> {
+        fs::read(&self.path).expect("the table's file")
     }
 
     pub fn file_len(&self) -> u64 {

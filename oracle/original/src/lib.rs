@@ -1,5 +1,5 @@
-//! The original's value table: table.rs, display.rs, error.rs and file.rs of parity-db, compiled unchanged from the folder shared/
-//! beside the repository, over stand-ins for what is not there. `PRESENT` says whether the folder was found.
+//! The original's value table: table.rs, display.rs, error.rs and file.rs of parity-db, compiled unchanged from where ../build.rs finds
+//! them, over stand-ins for what is not there. `PRESENT` says whether they were found.
 
 #[cfg(original)]
 include!(concat!(env!("OUT_DIR"), "/modules.rs"));

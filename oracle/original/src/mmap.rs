@@ -24,6 +24,7 @@ thread_local! {
 pub enum Stopped {
     PastFile,
     Endless,
+    TooLong,
 }
 
 /// Counts one look at a slot.
@@ -58,7 +59,7 @@ impl Mmap {
     pub fn map_growable(file: &File, _len: usize) -> Result<Self> {
         let len = file.metadata().map_err(Error::Io)?.len() as usize;
         if len > LONGEST {
-            std::panic::panic_any(Stopped::Endless);
+            std::panic::panic_any(Stopped::TooLong);
         }
         let at = unsafe { mmap(std::ptr::null_mut(), len, READ_AND_WRITE, SHARED, file.as_raw_fd(), 0) };
         if at as isize == -1 {

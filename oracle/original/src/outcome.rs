@@ -23,6 +23,8 @@ pub enum Outcome<T> {
     PastFile,
     /// more looks than any walk over this table can need: the stand-in stops the call there
     Endless,
+    /// the file has grown past all that is compared: the stand-in stops the call there
+    TooLong,
 }
 
 impl<T> Outcome<T> {
@@ -41,6 +43,7 @@ impl<T> Outcome<T> {
             Outcome::Panic(m) => Outcome::Panic(m),
             Outcome::PastFile => Outcome::PastFile,
             Outcome::Endless => Outcome::Endless,
+            Outcome::TooLong => Outcome::TooLong,
         }
     }
 }

@@ -1,6 +1,10 @@
 use denote.Ref.{now}
+use mathlib.Core.List.{List}
+use mathlib.Core.Path.{ap, _∙_}
+use Prim.Native.Nat.{ℕ, _+_, _/_}
 use native.Mathlib.Omega.{arith}
 use borrow.Author.Needs.{needs}
+use Rattle.definition.specs.Numbers.{bytes, put}
 use Rattle.laws.proofs.Puts.{put-halves}
 use Rattle.numbers.proofs.write_u32.Statement.{statement}
 use Rattle.numbers.proofs.write_u32.Tie as tie
@@ -25,7 +29,9 @@ same-length c = search needs
 
 returns : tie.Need-returns
 returns c =
-    cc (c .before .before .before .before .before .before .write-u16 .ensures, c .before .before .write-u162 .ensures, put-halves 2 (now (c .before .before .before .before .before .before .before .before .before .args .s)) (c .before .before .before .before .before .before .before .before .before .args .at) (c .before .before .before .before .before .before .before .before .before .args .n) (omega (arith, c .before .before .before .before .before .before .before .before .before .pre)))
+    c .before .before .write-u162 .ensures
+    ∙ ap (λ (t : List ℕ). put t (c .before .before .before .before .before .before .before .before .before .args .at + 2) (bytes 2 (c .before .before .before .before .before .before .before .before .before .args .n / 0x1_0000))) (c .before .before .before .before .before .before .write-u16 .ensures)
+    ∙ put-halves 2 (now (c .before .before .before .before .before .before .before .before .before .args .s)) (c .before .before .before .before .before .before .before .before .before .args .at) (c .before .before .before .before .before .before .before .before .before .args .n) (omega (arith, c .before .before .before .before .before .before .before .before .before .pre))
 
 pub write-u32-spec : {M : Type 1} → statement M
 write-u32-spec =

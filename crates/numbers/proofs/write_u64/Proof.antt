@@ -1,6 +1,10 @@
 use denote.Ref.{now}
+use mathlib.Core.List.{List}
+use mathlib.Core.Path.{ap, _∙_}
+use Prim.Native.Nat.{ℕ, _+_, _/_}
 use native.Mathlib.Omega.{arith}
 use borrow.Author.Needs.{needs}
+use Rattle.definition.specs.Numbers.{bytes, put}
 use Rattle.laws.proofs.Puts.{put-halves}
 use Rattle.numbers.proofs.write_u64.Statement.{statement}
 use Rattle.numbers.proofs.write_u64.Tie as tie
@@ -25,7 +29,9 @@ same-length c = search needs
 
 returns : tie.Need-returns
 returns c =
-    cc (c .before .before .before .before .before .before .write-u32 .ensures, c .before .before .write-u322 .ensures, put-halves 4 (now (c .before .before .before .before .before .before .before .before .before .args .s)) (c .before .before .before .before .before .before .before .before .before .args .at) (c .before .before .before .before .before .before .before .before .before .args .n) (omega (arith, c .before .before .before .before .before .before .before .before .before .pre)))
+    c .before .before .write-u322 .ensures
+    ∙ ap (λ (t : List ℕ). put t (c .before .before .before .before .before .before .before .before .before .args .at + 4) (bytes 4 (c .before .before .before .before .before .before .before .before .before .args .n / 0x1_0000_0000))) (c .before .before .before .before .before .before .write-u32 .ensures)
+    ∙ put-halves 4 (now (c .before .before .before .before .before .before .before .before .before .args .s)) (c .before .before .before .before .before .before .before .before .before .args .at) (c .before .before .before .before .before .before .before .before .before .args .n) (omega (arith, c .before .before .before .before .before .before .before .before .before .pre))
 
 pub write-u64-spec : {M : Type 1} → statement M
 write-u64-spec =

@@ -1,5 +1,8 @@
 use denote.Ref.{now}
+use mathlib.Core.List.{List}
 use mathlib.Core.Path.{_∙_, ap}
+use Prim.Native.Nat.{ℕ, _+_, _-_}
+use lib.ListN.{length, take, drop}
 use borrow.Author.Needs.{needs}
 use Rattle.writer.proofs.WriteLaws.{body-right, body-left, body-across}
 use Rattle.definition.specs.Numbers.{put}
@@ -52,7 +55,10 @@ same-length-3 c = search needs
 returns-3 : tie.Need-returns-3
 returns-3 c =
     let a = c .before .before .before .before .before .before .before .before .before .before .before .before .before .args in
-    cc (c .before .before .before .before .before .before .copy3 .ensures, c .before .before .copy4 .ensures, body-across (now (a .prefix)) (now (a .content)) (a .from) (a .n) (now (a .dst)) (a .to) (c .before .before .before .before .before .before .before .before .before .if1 .left) (c .before .before .before .before .before .before .before .before .if2 .left) (c .before .before .before .before .before .before .before .before .before .before .before .before .before .pre .0) (c .before .before .before .before .before .before .before .before .before .before .before .before .before .pre .1))
+    let m = length (now (a .prefix)) - a .from in
+    c .before .before .copy4 .ensures
+    ∙ ap (λ (d : List ℕ). put d (a .to + m) (take (a .n - m) (drop 0 (now (a .content))))) (c .before .before .before .before .before .before .copy3 .ensures)
+    ∙ body-across (now (a .prefix)) (now (a .content)) (a .from) (a .n) (now (a .dst)) (a .to) (c .before .before .before .before .before .before .before .before .before .if1 .left) (c .before .before .before .before .before .before .before .before .if2 .left) (c .before .before .before .before .before .before .before .before .before .before .before .before .before .pre .0) (c .before .before .before .before .before .before .before .before .before .before .before .before .before .pre .1)
 
 pub copy-body-spec : {M : Type 1} → statement M
 copy-body-spec =

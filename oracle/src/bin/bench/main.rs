@@ -8,6 +8,8 @@ mod document;
 #[path = "../../functions.rs"]
 mod functions;
 #[cfg(station)]
+mod leaves;
+#[cfg(station)]
 mod measure;
 #[cfg(station)]
 mod plot;
@@ -17,7 +19,7 @@ mod tables;
 #[cfg(station)]
 fn main() {
     if !original::PRESENT {
-        println!("skipped: the Rust's files are not in ../shared/docs/src/src beside the repository, so there is nothing to compare with");
+        println!("skipped: the Rust's files are not in ../shared/docs/src, and PYLTARKA_RUST names no other folder: there is nothing to compare with");
         return;
     }
     let quick = std::env::args().any(|argument| argument == "--quick");
@@ -25,13 +27,15 @@ fn main() {
     let machine = document::machine();
     let mut folders = tables::Folders::new();
     let mut measures = measure::sizes(&mut folders);
+    let mut leaves = leaves::leaves();
     let mut in_order = measure::growth(false, &mut folders);
     let mut shuffled = measure::growth(true, &mut folders);
     original::Table::unlimited();
     measure::run(&mut measures, rounds);
+    measure::run(&mut leaves, rounds);
     measure::run(&mut in_order, rounds);
     measure::run(&mut shuffled, rounds);
-    let text = document::text(&machine, &measures, &in_order, &shuffled);
+    let text = document::text(&machine, &measures, &leaves, &in_order, &shuffled);
     println!("{text}");
     if quick {
         return;

@@ -13,7 +13,7 @@ const PASSES: usize = 5;
 pub struct Samples(Vec<f64>);
 
 impl Samples {
-    fn time(&mut self, calls: usize, batch: impl FnOnce()) {
+    pub fn time(&mut self, calls: usize, batch: impl FnOnce()) {
         let start = Instant::now();
         batch();
         self.0.push(start.elapsed().as_nanos() as f64 / calls as f64);
@@ -36,6 +36,8 @@ pub struct Times {
     /// the log's share of plan and enactment
     pub log: Samples,
     pub memcpy: Samples,
+    /// a read that is refused once its chain is walked
+    pub walk: Samples,
 }
 
 pub struct Measure {
@@ -45,6 +47,12 @@ pub struct Measure {
     pub times: Times,
     rounds: usize,
     round: Box<dyn FnMut(&mut Times, bool)>,
+}
+
+impl Measure {
+    pub fn new(call: &'static str, bytes: usize, rounds: usize, round: impl FnMut(&mut Times, bool) + 'static) -> Self {
+        Measure { call, bytes, times: Times::default(), rounds, round: Box::new(round) }
+    }
 }
 
 /// Runs all measures, in turn and several times over; `part` is how many of their rounds.
@@ -123,7 +131,7 @@ where
                 }
             });
         };
-        Measure { call, bytes, times: Times::default(), rounds, round: Box::new(round) }
+        Measure::new(call, bytes, rounds, round)
     }
 
     /// The first calls, compared: answers and every byte. Answers the log's entries of the first.
@@ -285,7 +293,7 @@ fn read(case: Case, bytes: usize, calls: usize, rounds: usize, folders: &mut Fol
             }
         });
     };
-    Measure { call: "read", bytes, times: Times::default(), rounds: rounds * 2, round: Box::new(round) }
+    Measure::new("read", bytes, rounds * 2, round)
 }
 
 fn read_fixed(case: Case, bytes: usize, calls: usize, rounds: usize, folders: &mut Folders) -> Measure {
@@ -307,7 +315,7 @@ fn read_fixed(case: Case, bytes: usize, calls: usize, rounds: usize, folders: &m
             }
         }
     };
-    Measure { call: "fixed read", bytes, times: Times::default(), rounds: rounds * 2, round: Box::new(round) }
+    Measure::new("fixed read", bytes, rounds * 2, round)
 }
 
 /// The calls at the three sizes.

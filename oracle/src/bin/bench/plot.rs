@@ -2,7 +2,7 @@
 //! the reader's light or dark scheme.
 
 use crate::{
-    document::{grouped, is_read, ratio, to_memcpy, to_rust, to_rust_without_log, COPY_BYTES, COPY_TARGET},
+    document::{grouped, is_read, ratio, to_memcpy, to_rust, to_rust_without_log, COPY_TARGETS},
     measure::Measure,
 };
 use std::fmt::Write;
@@ -147,21 +147,24 @@ fn over_memcpy(d: &mut Drawing, measures: &[Measure]) {
     let reads: Vec<&Measure> = measures.iter().filter(|m| m.call == "read").collect();
     let bottom = d.y + row * reads.len() as f64 + 8.0;
     d.grid(&axis, &[1.0, 2.0, 5.0, 10.0, 20.0, 40.0], bottom);
-    let (one, limit) = (axis.at(1.0), axis.at(COPY_TARGET));
+    let one = axis.at(1.0);
     d.line("axis", (one, d.y), (one, bottom));
     for m in reads {
         d.word("word end", (LEFT - 14.0, d.y + row / 2.0 + 4.0), &format!("{} bytes", grouped(m.bytes)));
         let theirs = m.times.rust.median() / m.times.memcpy.median();
+        let most = COPY_TARGETS.iter().find(|(bytes, _)| *bytes == m.bytes).map(|(_, most)| *most);
         for (class, value, y) in [("ours", to_memcpy(m), d.y + 16.0), ("rust", theirs, d.y + 36.0)] {
             let x = axis.at(value);
             d.line(&format!("{class}-line thick"), (one, y), (x, y));
             d.dot(class, (x, y), 5.0);
-            let right = if m.bytes == COPY_BYTES { x.max(limit) } else { x };
+            let right = most.map_or(x, |most| x.max(axis.at(most)));
             d.word("word small", (right + 10.0, y + 4.0), &ratio(value));
         }
-        if m.bytes == COPY_BYTES {
+        if let Some(most) = most {
+            let limit = axis.at(most);
             d.line("target thick dashed", (limit, d.y + 4.0), (limit, d.y + row - 4.0));
-            d.word("target-word small", (axis.at(2.0) + 14.0, d.y + row / 2.0 + 4.0), "target: at most 1.3");
+            let right = axis.at(to_memcpy(m).max(theirs)) + 50.0;
+            d.word("target-word small", (right.max(axis.at(2.0) + 14.0), d.y + row / 2.0 + 4.0), &format!("target: at most {most}"));
         }
         d.y += row;
     }

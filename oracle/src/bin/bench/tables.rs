@@ -5,7 +5,7 @@ use crate::functions::{pyltarka_remove, pyltarka_replace};
 use original::{Key, Outcome, Table};
 use std::{
     alloc::{alloc_zeroed, dealloc, Layout},
-    ops::{Deref, DerefMut},
+    ops::{Deref, DerefMut, Range},
     path::PathBuf,
 };
 
@@ -104,6 +104,14 @@ impl Kind {
         got
     }
 
+    /// A read whose output is too short: all its tests, and no byte copied.
+    #[inline(always)]
+    pub fn read_refused(self, table: &[u8], slot: u64, key: &Key, output: &mut [u8]) {
+        let (t, n, k, o) = (table.as_ptr(), table.len(), key.as_ptr(), output.as_mut_ptr());
+        let got = unsafe { pyltarka_read(t, n, self.0, slot, true, k, key.len(), o, output.len()) };
+        assert!(got.number == 13, "not refused for its output");
+    }
+
     #[inline(always)]
     pub fn read_fixed(self, table: &[u8], slot: u64, key: &Key) -> functions::Part {
         let got = unsafe { pyltarka_read_fixed(table.as_ptr(), table.len(), self.0, slot, true, key.as_ptr(), key.len()) };
@@ -164,6 +172,28 @@ pub fn multipart(len: usize) -> Case {
     assert!(kind.free_count(&bytes) == FREE);
     kind.change(&mut bytes, slot, 4);
     Case { kind, bytes, slot, key: key(2), content: content(len, 2), other: content(len, 99) }
+}
+
+/// Where the content of a multipart record lies in its table, part by part.
+pub fn parts(case: &Case) -> Vec<Range<usize>> {
+    let number = |at: usize| u64::from_le_bytes(case.bytes[at..at + 8].try_into().expect("eight bytes")) as usize;
+    let (size, mut left) = (case.kind.size(), case.content.len());
+    let head = case.slot as usize * size;
+    let (mut slot, mut start, mut next) = (head, head + 48, number(head + 10));
+    let mut parts = Vec::new();
+    loop {
+        let end = (slot + size).min(start + left);
+        parts.push(start..end);
+        left -= end - start;
+        if left == 0 {
+            break;
+        }
+        slot = next * size;
+        let last = case.bytes[slot..slot + 2] != [0xfe, 0xff];
+        (start, next) = if last { (slot + 2, 0) } else { (slot + 10, number(slot + 2)) };
+    }
+    assert!(parts.iter().flat_map(|part| &case.bytes[part.clone()]).eq(&case.content), "the parts are not the content");
+    parts
 }
 
 /// E = 64, a free list of `members` slots, linked by slots or in any order, and one unused slot for an insert without a free list.
