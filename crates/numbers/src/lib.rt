@@ -25,12 +25,21 @@ pub fn read_u32(s: &[u8], at: usize) -> u32
     (read_u16(s, at) as u32) + (read_u16(s, at + 2) as u32) * 0x1_0000
 }
 
-// The eight-byte number at place `at`. By halves, which compiles to one load.
+// The eight-byte number at place `at`: its eight bytes, each at its worth.
 pub fn read_u64(s: &[u8], at: usize) -> u64
     requires { ⌜ at + 8 ≤ length (now s) ⌝ }
     ensures { λ r. ⌜ r ≡ num at 8 (now (s .entry)) ⌝ }
 {
-    (read_u32(s, at) as u64) + (read_u32(s, at + 4) as u64) * 0x1_0000_0000
+    let end = at + 8;
+    let b = &s[at..end];
+    (b[0] as u64)
+        + (b[1] as u64) * 0x100
+        + (b[2] as u64) * 0x1_0000
+        + (b[3] as u64) * 0x100_0000
+        + (b[4] as u64) * 0x1_0000_0000
+        + (b[5] as u64) * 0x100_0000_0000
+        + (b[6] as u64) * 0x1_0000_0000_0000
+        + (b[7] as u64) * 0x100_0000_0000_0000
 }
 
 // Stores n in two bytes at place `at`.
@@ -56,8 +65,16 @@ pub fn write_u64(s: &mut [u8], at: usize, n: u64)
     requires { ⌜ at + 8 ≤ length (now s) ⌝ }
     ensures { λ _. ⌜ now (s .exit) ≡ put (now (s .entry)) at (bytes 8 n) ⌝ }
 {
-    write_u32(s, at, (n % 0x1_0000_0000) as u32);
-    write_u32(s, at + 4, (n / 0x1_0000_0000) as u32);
+    let end = at + 8;
+    let b = &mut s[at..end];
+    b[0] = (n % 0x100) as u8;
+    b[1] = (n / 0x100 % 0x100) as u8;
+    b[2] = (n / 0x1_0000 % 0x100) as u8;
+    b[3] = (n / 0x100_0000 % 0x100) as u8;
+    b[4] = (n / 0x1_0000_0000 % 0x100) as u8;
+    b[5] = (n / 0x100_0000_0000 % 0x100) as u8;
+    b[6] = (n / 0x1_0000_0000_0000 % 0x100) as u8;
+    b[7] = (n / 0x100_0000_0000_0000) as u8;
 }
 
 // ---- marks

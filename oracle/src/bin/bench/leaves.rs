@@ -8,7 +8,7 @@ use std::hint::black_box;
 
 /// A content of `bytes` bytes fetched from where its parts lie, a memcpy each, beside one memcpy of as many bytes from page to page:
 /// what a copying read takes if it is told the places and tests nothing. And the tests alone, by a read whose output is too short.
-fn by_parts(bytes: usize) -> Measure {
+fn parts_of(bytes: usize) -> Measure {
     const CALLS: usize = 8;
     let case = tables::multipart(bytes);
     let parts = tables::parts(&case);
@@ -46,6 +46,67 @@ fn by_parts(bytes: usize) -> Measure {
     Measure::new("memcpy, part by part", bytes, 4_000, round)
 }
 
-pub fn leaves() -> Vec<Measure> {
-    [20_480, 65_536].into_iter().map(by_parts).collect()
+pub fn by_parts() -> Vec<Measure> {
+    [20_480, 65_536].into_iter().map(parts_of).collect()
+}
+
+extern "C" {
+    fn number_loops_sum(s: *const u8, len: usize) -> u64;
+    fn number_loops_fill(s: *mut u8, len: usize, first: u64, step: u64);
+}
+
+/// A million numbers are these, a thousand times over: what is timed is the numbers and not the memory.
+const NUMBERS: usize = 1_000;
+const TIMES: usize = 1_000;
+const STEP: u64 = 0x0102_0304_0506_0708;
+
+#[inline(never)]
+fn sum_rust(s: &[u8]) -> u64 {
+    let (mut sum, mut at) = (0u64, 0);
+    while 8 <= s.len() - at {
+        sum = sum.wrapping_add(u64::from_le_bytes(s[at..at + 8].try_into().unwrap()));
+        at += 8;
+    }
+    sum
+}
+
+#[inline(never)]
+fn fill_rust(s: &mut [u8], first: u64, step: u64) {
+    let (mut n, mut at) = (first, 0);
+    while 8 <= s.len() - at {
+        s[at..at + 8].copy_from_slice(&n.to_le_bytes());
+        n = n.wrapping_add(step);
+        at += 8;
+    }
+}
+
+fn sum_ours(s: &[u8]) -> u64 {
+    unsafe { number_loops_sum(s.as_ptr(), s.len()) }
+}
+
+fn fill_ours(s: &mut [u8], first: u64, step: u64) {
+    unsafe { number_loops_fill(s.as_mut_ptr(), s.len(), first, step) }
+}
+
+/// Times a thousand calls of either, either first in turn.
+fn thousand<T: 'static>(call: &'static str, mut of: T, ours: fn(&mut T), rust: fn(&mut T)) -> Measure {
+    let round = move |times: &mut Times, ours_first: bool| {
+        for side in [ours_first, !ours_first] {
+            let (samples, one) = if side { (&mut times.ours, ours) } else { (&mut times.rust, rust) };
+            samples.time(1, || (0..TIMES).for_each(|_| one(black_box(&mut of))));
+        }
+    };
+    Measure::new(call, NUMBERS * TIMES, 1_000, round)
+}
+
+/// Eight-byte numbers read and stored, the library's way beside `from_le_bytes` and `to_le_bytes`.
+pub fn numbers() -> Vec<Measure> {
+    let (mut a, mut b) = (Pages::new(&[0; 8 * NUMBERS]), Pages::new(&[0; 8 * NUMBERS]));
+    fill_ours(&mut a, 5, STEP);
+    fill_rust(&mut b, 5, STEP);
+    assert!(a[..] == b[..] && sum_ours(&a) == sum_rust(&b), "the numbers differ");
+    vec![
+        thousand("read", a, |s| drop(black_box(sum_ours(s))), |s| drop(black_box(sum_rust(s)))),
+        thousand("store", b, |s| fill_ours(s, black_box(5), STEP), |s| fill_rust(s, black_box(5), STEP)),
+    ]
 }
