@@ -21,108 +21,108 @@ shared-slice-read-result c = search needs
 
 cast-result : tie.Need-cast-result
 cast-result c =
-    omega (arith, c .shared-slice-known .given 0)
+    let b = c .shared-slice-known .given in omega (arith, b 0, b 1, b 2, b 3, b 4, b 5, b 6, b 7)
 
 shared-slice-read-result-2 : tie.Need-shared-slice-read-result-2
 shared-slice-read-result-2 c = search needs
 
 cast-result-2 : tie.Need-cast-result-2
 cast-result-2 c =
-    omega (arith, c .shared-slice-known2 .given 1)
+    let b = c .shared-slice-known2 .given in omega (arith, b 0, b 1, b 2, b 3, b 4, b 5, b 6, b 7)
 
 mul-result : tie.Need-mul-result
 mul-result c =
-    omega (arith, c .shared-slice-known2 .given 1)
+    let b = c .shared-slice-known2 .given in omega (arith, b 0, b 1, b 2, b 3, b 4, b 5, b 6, b 7)
 
 add-result : tie.Need-add-result
 add-result c =
-    let b = c .shared-slice-known2 .given in omega (arith, b 0, b 1)
+    let b = c .shared-slice-known2 .given in omega (arith, b 0, b 1, b 2, b 3, b 4, b 5, b 6, b 7)
 
 shared-slice-read-result-3 : tie.Need-shared-slice-read-result-3
 shared-slice-read-result-3 c = search needs
 
 cast-result-3 : tie.Need-cast-result-3
 cast-result-3 c =
-    omega (arith, c .shared-slice-known3 .given 2)
+    let b = c .shared-slice-known3 .given in omega (arith, b 0, b 1, b 2, b 3, b 4, b 5, b 6, b 7)
 
 mul-result-2 : tie.Need-mul-result-2
 mul-result-2 c =
-    omega (arith, c .shared-slice-known3 .given 2)
+    let b = c .shared-slice-known3 .given in omega (arith, b 0, b 1, b 2, b 3, b 4, b 5, b 6, b 7)
 
 add-result-2 : tie.Need-add-result-2
 add-result-2 c =
-    let b = c .shared-slice-known3 .given in omega (arith, b 0, b 1, b 2)
+    let b = c .shared-slice-known3 .given in omega (arith, b 0, b 1, b 2, b 3, b 4, b 5, b 6, b 7)
 
 shared-slice-read-result-4 : tie.Need-shared-slice-read-result-4
 shared-slice-read-result-4 c = search needs
 
 cast-result-4 : tie.Need-cast-result-4
 cast-result-4 c =
-    omega (arith, c .shared-slice-known4 .given 3)
+    let b = c .shared-slice-known4 .given in omega (arith, b 0, b 1, b 2, b 3, b 4, b 5, b 6, b 7)
 
 mul-result-3 : tie.Need-mul-result-3
 mul-result-3 c =
-    omega (arith, c .shared-slice-known4 .given 3)
+    let b = c .shared-slice-known4 .given in omega (arith, b 0, b 1, b 2, b 3, b 4, b 5, b 6, b 7)
 
 add-result-3 : tie.Need-add-result-3
 add-result-3 c =
-    let b = c .shared-slice-known4 .given in omega (arith, b 0, b 1, b 2, b 3)
+    let b = c .shared-slice-known4 .given in omega (arith, b 0, b 1, b 2, b 3, b 4, b 5, b 6, b 7)
 
 shared-slice-read-result-5 : tie.Need-shared-slice-read-result-5
 shared-slice-read-result-5 c = search needs
 
 cast-result-5 : tie.Need-cast-result-5
 cast-result-5 c =
-    omega (arith, c .shared-slice-known5 .given 4)
+    let b = c .shared-slice-known5 .given in omega (arith, b 0, b 1, b 2, b 3, b 4, b 5, b 6, b 7)
 
 mul-result-4 : tie.Need-mul-result-4
 mul-result-4 c =
-    omega (arith, c .shared-slice-known5 .given 4)
+    let b = c .shared-slice-known5 .given in omega (arith, b 0, b 1, b 2, b 3, b 4, b 5, b 6, b 7)
 
 add-result-4 : tie.Need-add-result-4
 add-result-4 c =
-    let b = c .shared-slice-known5 .given in omega (arith, b 0, b 1, b 2, b 3, b 4)
+    let b = c .shared-slice-known5 .given in omega (arith, b 0, b 1, b 2, b 3, b 4, b 5, b 6, b 7)
 
 shared-slice-read-result-6 : tie.Need-shared-slice-read-result-6
 shared-slice-read-result-6 c = search needs
 
 cast-result-6 : tie.Need-cast-result-6
 cast-result-6 c =
-    omega (arith, c .shared-slice-known6 .given 5)
+    let b = c .shared-slice-known6 .given in omega (arith, b 0, b 1, b 2, b 3, b 4, b 5, b 6, b 7)
 
 mul-result-5 : tie.Need-mul-result-5
 mul-result-5 c =
-    omega (arith, c .shared-slice-known6 .given 5)
+    let b = c .shared-slice-known6 .given in omega (arith, b 0, b 1, b 2, b 3, b 4, b 5, b 6, b 7)
 
 add-result-5 : tie.Need-add-result-5
 add-result-5 c =
-    let b = c .shared-slice-known6 .given in omega (arith, b 0, b 1, b 2, b 3, b 4, b 5)
+    let b = c .shared-slice-known6 .given in omega (arith, b 0, b 1, b 2, b 3, b 4, b 5, b 6, b 7)
 
 shared-slice-read-result-7 : tie.Need-shared-slice-read-result-7
 shared-slice-read-result-7 c = search needs
 
 cast-result-7 : tie.Need-cast-result-7
 cast-result-7 c =
-    omega (arith, c .shared-slice-known7 .given 6)
+    let b = c .shared-slice-known7 .given in omega (arith, b 0, b 1, b 2, b 3, b 4, b 5, b 6, b 7)
 
 mul-result-6 : tie.Need-mul-result-6
 mul-result-6 c =
-    omega (arith, c .shared-slice-known7 .given 6)
+    let b = c .shared-slice-known7 .given in omega (arith, b 0, b 1, b 2, b 3, b 4, b 5, b 6, b 7)
 
 add-result-6 : tie.Need-add-result-6
 add-result-6 c =
-    let b = c .shared-slice-known7 .given in omega (arith, b 0, b 1, b 2, b 3, b 4, b 5, b 6)
+    let b = c .shared-slice-known7 .given in omega (arith, b 0, b 1, b 2, b 3, b 4, b 5, b 6, b 7)
 
 shared-slice-read-result-8 : tie.Need-shared-slice-read-result-8
 shared-slice-read-result-8 c = search needs
 
 cast-result-8 : tie.Need-cast-result-8
 cast-result-8 c =
-    omega (arith, c .shared-slice-known8 .given 7)
+    let b = c .shared-slice-known8 .given in omega (arith, b 0, b 1, b 2, b 3, b 4, b 5, b 6, b 7)
 
 mul-result-7 : tie.Need-mul-result-7
 mul-result-7 c =
-    omega (arith, c .shared-slice-known8 .given 7)
+    let b = c .shared-slice-known8 .given in omega (arith, b 0, b 1, b 2, b 3, b 4, b 5, b 6, b 7)
 
 add-result-7 : tie.Need-add-result-7
 add-result-7 c =
