@@ -125,7 +125,7 @@ fn leaves(text: &mut String, leaves: &[Measure]) {
 }
 
 fn numbers(text: &mut String, numbers: &[Measure]) {
-    *text += "\nA million eight-byte numbers, a thousand in a thousand turns, µs. The target is at most 1.05.\n\n";
+    *text += "\nA million eight-byte numbers in one slice, read and added up, or stored, µs. The target is at most 1.05.\n\n";
     *text += "| | Library | Rust | Library / Rust |\n|---|---:|---:|---:|\n";
     for m in numbers {
         let cells = [&m.times.ours, &m.times.rust].map(|samples| nanoseconds(samples.median() / 1e3)).join(" | ");

@@ -55,9 +55,7 @@ extern "C" {
     fn number_loops_fill(s: *mut u8, len: usize, first: u64, step: u64);
 }
 
-/// A million numbers are these, a thousand times over: what is timed is the numbers and not the memory.
-const NUMBERS: usize = 1_000;
-const TIMES: usize = 1_000;
+const NUMBERS: usize = 1_000_000;
 const STEP: u64 = 0x0102_0304_0506_0708;
 
 #[inline(never)]
@@ -88,25 +86,25 @@ fn fill_ours(s: &mut [u8], first: u64, step: u64) {
     unsafe { number_loops_fill(s.as_mut_ptr(), s.len(), first, step) }
 }
 
-/// Times a thousand calls of either, either first in turn.
-fn thousand<T: 'static>(call: &'static str, mut of: T, ours: fn(&mut T), rust: fn(&mut T)) -> Measure {
+/// One call of either on all the numbers, either first in turn.
+fn beside<T: 'static>(call: &'static str, mut of: T, ours: fn(&mut T), rust: fn(&mut T)) -> Measure {
     let round = move |times: &mut Times, ours_first: bool| {
         for side in [ours_first, !ours_first] {
             let (samples, one) = if side { (&mut times.ours, ours) } else { (&mut times.rust, rust) };
-            samples.time(1, || (0..TIMES).for_each(|_| one(black_box(&mut of))));
+            samples.time(1, || one(black_box(&mut of)));
         }
     };
-    Measure::new(call, NUMBERS * TIMES, 1_000, round)
+    Measure::new(call, NUMBERS, 1_000, round)
 }
 
 /// Eight-byte numbers read and stored, the library's way beside `from_le_bytes` and `to_le_bytes`.
 pub fn numbers() -> Vec<Measure> {
-    let (mut a, mut b) = (Pages::new(&[0; 8 * NUMBERS]), Pages::new(&[0; 8 * NUMBERS]));
+    let (mut a, mut b) = (Pages::new(&vec![0; 8 * NUMBERS]), Pages::new(&vec![0; 8 * NUMBERS]));
     fill_ours(&mut a, 5, STEP);
     fill_rust(&mut b, 5, STEP);
     assert!(a[..] == b[..] && sum_ours(&a) == sum_rust(&b), "the numbers differ");
     vec![
-        thousand("read", a, |s| drop(black_box(sum_ours(s))), |s| drop(black_box(sum_rust(s)))),
-        thousand("store", b, |s| fill_ours(s, black_box(5), STEP), |s| fill_rust(s, black_box(5), STEP)),
+        beside("read", a, |s| _ = black_box(sum_ours(s)), |s| _ = black_box(sum_rust(s))),
+        beside("store", b, |s| fill_ours(s, black_box(5), STEP), |s| fill_rust(s, black_box(5), STEP)),
     ]
 }
