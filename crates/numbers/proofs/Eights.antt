@@ -1,32 +1,29 @@
--- Eight bytes: the number that they spell is their sum, each at its worth (`sum-eight`), and a number's bytes stored one by one into a part
--- of eight are its store (`put-eight`).
+-- Eight bytes: read one by one from a part of eight they spell the number there (`num-eight`), and a number's bytes stored one by one into
+-- a part of eight are its store (`put-eight`).
 use mathlib.Core.Path.{_≡_, refl, sym, ap, _∙_}
 use mathlib.Core.List.{List, [], _∷_, _++_}
 use Prim.Native.Nat.{ℕ, _+_, _-_, _*_, _/_, _%_, _≤_, _<_}
 use native.Mathlib.Omega.{arith}
 use lib.ListN.{length, take, drop, getD, set}
-use lib.Seq.{take-all, drop-length, sets-eq}
+use lib.Seq.{drop-cons, drop-length, sets-eq}
 use Rattle.definition.specs.Numbers.{le, bytes, num, put}
-use Rattle.laws.proofs.Bytes.{length-bytes, num-step}
+use Rattle.laws.proofs.Bytes.{length-bytes}
 use Rattle.laws.proofs.Lists.{length-part}
 use Rattle.laws.proofs.Puts.{lent}
 
-none : (l : List ℕ) → num 8 0 l ≡ 0
-unfolding num le
-none l = refl
+-- a list of eight, element by element
+elements : (l : List ℕ) → length l ≡ 8
+    → getD l 0 0 ∷ getD l 1 0 ∷ getD l 2 0 ∷ getD l 3 0 ∷ getD l 4 0 ∷ getD l 5 0 ∷ getD l 6 0 ∷ getD l 7 0 ∷ [] ≡ l
+elements l w =
+    let end : drop 8 l ≡ [] = ap (λ (k : ℕ). drop k l) (sym w) ∙ drop-length l in
+    cc (drop-cons l 0 0 (omega arith), drop-cons l 1 0 (omega arith), drop-cons l 2 0 (omega arith), drop-cons l 3 0 (omega arith), drop-cons l 4 0 (omega arith), drop-cons l 5 0 (omega arith), drop-cons l 6 0 (omega arith), drop-cons l 7 0 (omega arith), end)
 
-eight : (l : List ℕ) → length l ≡ 8
-    → getD l 0 0 + getD l 1 0 * 0x100 + getD l 2 0 * 0x10000 + getD l 3 0 * 0x1000000 + getD l 4 0 * 0x100000000 + getD l 5 0 * 0x10000000000 + getD l 6 0 * 0x1000000000000 + getD l 7 0 * 0x100000000000000 ≡ num 0 8 l
-eight l h =
-    omega (arith, num-step 0 7 l (omega arith), num-step 1 6 l (omega arith), num-step 2 5 l (omega arith), num-step 3 4 l (omega arith), num-step 4 3 l (omega arith), num-step 5 2 l (omega arith), num-step 6 1 l (omega arith), num-step 7 0 l (omega arith), none l)
-
-pub sum-eight : (s : List ℕ) (at : ℕ) → at + 8 ≤ length s → (let l = take (at + 8 - at) (drop at s) in
-    getD l 0 0 + getD l 1 0 * 0x100 + getD l 2 0 * 0x10000 + getD l 3 0 * 0x1000000 + getD l 4 0 * 0x100000000 + getD l 5 0 * 0x10000000000 + getD l 6 0 * 0x1000000000000 + getD l 7 0 * 0x100000000000000) ≡ num at 8 s
+pub num-eight : (s : List ℕ) (at : ℕ) → at + 8 ≤ length s → (let l = take (at + 8 - at) (drop at s) in
+    le (getD l 0 0 ∷ getD l 1 0 ∷ getD l 2 0 ∷ getD l 3 0 ∷ getD l 4 0 ∷ getD l 5 0 ∷ getD l 6 0 ∷ getD l 7 0 ∷ [])) ≡ num at 8 s
 unfolding num
-sum-eight s at h =
+num-eight s at h =
     let e : at + 8 - at ≡ 8 = omega arith in
-    let w : length (take 8 (drop at s)) ≡ 8 = length-part s at 8 h in
-    rw e (eight (take 8 (drop at s)) w ∙ ap le (take-all 8 (take 8 (drop at s)) (omega arith)))
+    rw e (ap le (elements (take 8 (drop at s)) (length-part s at 8 h)))
 
 bytes-eight : (n : ℕ) → n < 0x10000000000000000
     → n % 256 ∷ n / 0x100 % 256 ∷ n / 0x10000 % 256 ∷ n / 0x1000000 % 256 ∷ n / 0x100000000 % 256 ∷ n / 0x10000000000 % 256 ∷ n / 0x1000000000000 % 256 ∷ n / 0x100000000000000 ∷ [] ≡ bytes 8 n
