@@ -125,11 +125,11 @@ fn leaves(text: &mut String, leaves: &[Measure]) {
 }
 
 fn numbers(text: &mut String, numbers: &[Measure]) {
-    *text += "\nA million eight-byte numbers in one slice, read and added up, or stored, µs. The target is at most 1.05.\n\n";
-    *text += "| | Library | Rust | Library / Rust |\n|---|---:|---:|---:|\n";
+    *text += "\nA million eight-byte numbers read and added up, or stored, µs: in one slice, and in a slice of a thousand again and again. The target is at most 1.05.\n\n";
+    *text += "| | Numbers in the slice | Library | Rust | Library / Rust |\n|---|---:|---:|---:|---:|\n";
     for m in numbers {
         let cells = [&m.times.ours, &m.times.rust].map(|samples| nanoseconds(samples.median() / 1e3)).join(" | ");
-        writeln!(text, "| {} | {cells} | {} |", m.call, ratio(to_rust(m))).unwrap();
+        writeln!(text, "| {} | {} | {cells} | {} |", m.call, grouped(m.bytes), ratio(to_rust(m))).unwrap();
     }
 }
 
@@ -178,7 +178,11 @@ fn targets(text: &mut String, measures: &[Measure], numbers: &[Measure]) {
         let words = format!("a read of {} bytes at most {most} times memcpy", grouped(bytes));
         target(text, &words, missing(&|m| (m.call == "read" && m.bytes == bytes).then(|| to_memcpy(m)), most));
     }
-    let slower = numbers.iter().filter(|m| to_rust(m) > 1.05).map(|m| format!("{} ({})", m.call, ratio(to_rust(m)))).collect();
+    let slower = numbers
+        .iter()
+        .filter(|m| to_rust(m) > 1.05)
+        .map(|m| format!("{} of {} ({})", m.call, grouped(m.bytes), ratio(to_rust(m))))
+        .collect();
     target(text, "eight-byte numbers read and stored in at most 1.05 times the Rust's time", slower);
 }
 

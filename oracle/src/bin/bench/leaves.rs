@@ -55,7 +55,9 @@ extern "C" {
     fn number_loops_fill(s: *mut u8, len: usize, first: u64, step: u64);
 }
 
-const NUMBERS: usize = 1_000_000;
+/// A million numbers in all: so many in a slice, gone through so often. The long slice is in no near cache, the short one in the nearest.
+const LONG: (usize, usize) = (1_000_000, 1);
+const SHORT: (usize, usize) = (1_000, 1_000);
 const STEP: u64 = 0x0102_0304_0506_0708;
 
 #[inline(never)]
@@ -86,25 +88,29 @@ fn fill_ours(s: &mut [u8], first: u64, step: u64) {
     unsafe { number_loops_fill(s.as_mut_ptr(), s.len(), first, step) }
 }
 
-/// One call of either on all the numbers, either first in turn.
-fn beside<T: 'static>(call: &'static str, mut of: T, ours: fn(&mut T), rust: fn(&mut T)) -> Measure {
+/// A million numbers by either, either first in turn.
+fn beside(call: &'static str, (numbers, turns): (usize, usize), ours: fn(&mut [u8]), rust: fn(&mut [u8])) -> Measure {
+    let mut slice = Pages::new(&vec![1; 8 * numbers]);
     let round = move |times: &mut Times, ours_first: bool| {
         for side in [ours_first, !ours_first] {
             let (samples, one) = if side { (&mut times.ours, ours) } else { (&mut times.rust, rust) };
-            samples.time(1, || one(black_box(&mut of)));
+            samples.time(1, || (0..turns).for_each(|_| one(black_box(&mut slice))));
         }
     };
-    Measure::new(call, NUMBERS, 1_000, round)
+    Measure::new(call, numbers, 1_000, round)
 }
 
 /// Eight-byte numbers read and stored, the library's way beside `from_le_bytes` and `to_le_bytes`.
 pub fn numbers() -> Vec<Measure> {
-    let (mut a, mut b) = (Pages::new(&vec![0; 8 * NUMBERS]), Pages::new(&vec![0; 8 * NUMBERS]));
+    let (mut a, mut b) = ([0; 8_000], [0; 8_000]);
     fill_ours(&mut a, 5, STEP);
     fill_rust(&mut b, 5, STEP);
-    assert!(a[..] == b[..] && sum_ours(&a) == sum_rust(&b), "the numbers differ");
-    vec![
-        beside("read", a, |s| _ = black_box(sum_ours(s)), |s| _ = black_box(sum_rust(s))),
-        beside("store", b, |s| fill_ours(s, black_box(5), STEP), |s| fill_rust(s, black_box(5), STEP)),
-    ]
+    assert!(a == b && sum_ours(&a) == sum_rust(&b), "the numbers differ");
+    let both = |size| {
+        [
+            beside("read", size, |s| _ = black_box(sum_ours(s)), |s| _ = black_box(sum_rust(s))),
+            beside("store", size, |s| fill_ours(s, black_box(5), STEP), |s| fill_rust(s, black_box(5), STEP)),
+        ]
+    };
+    [LONG, SHORT].into_iter().flat_map(both).collect()
 }
