@@ -1,44 +1,68 @@
-use native.Mathlib.Omega.{arith}
 use denote.Ref.{now}
+use mathlib.Core.Path.{_∙_}
 use borrow.Author.Needs.{needs}
-use Rattle.laws.proofs.Bytes.{num-two-parts}
+use Rattle.numbers.proofs.Eights.{num-eight}
 use Rattle.numbers.proofs.read_u64.Statement.{statement}
 use Rattle.numbers.proofs.read_u64.Tie as tie
 
-read-u32-requires : tie.Need-read-u32-requires
-read-u32-requires c κs = search needs
+add-end : tie.Need-add-end
+add-end c = search needs
 
-cast-result : tie.Need-cast-result
-cast-result c = search needs
+sub-b : tie.Need-sub-b
+sub-b c = search needs
 
-add-read-u32 : tie.Need-add-read-u32
-add-read-u32 c = search needs
+part-b-start : tie.Need-part-b-start
+part-b-start c = search needs
 
-read-u32-requires-2 : tie.Need-read-u32-requires-2
-read-u32-requires-2 c κs = search needs
+part-b-end : tie.Need-part-b-end
+part-b-end c = search needs
 
-cast-result-2 : tie.Need-cast-result-2
-cast-result-2 c = search needs
+shared-slice-read-spelt : tie.Need-shared-slice-read-spelt
+shared-slice-read-spelt c = search needs
 
-mul-result : tie.Need-mul-result
-mul-result c = search needs
+shared-slice-read-spelt-2 : tie.Need-shared-slice-read-spelt-2
+shared-slice-read-spelt-2 c = search needs
 
-add-result : tie.Need-add-result
-add-result c = search needs
+shared-slice-read-spelt-3 : tie.Need-shared-slice-read-spelt-3
+shared-slice-read-spelt-3 c = search needs
+
+shared-slice-read-spelt-4 : tie.Need-shared-slice-read-spelt-4
+shared-slice-read-spelt-4 c = search needs
+
+shared-slice-read-spelt-5 : tie.Need-shared-slice-read-spelt-5
+shared-slice-read-spelt-5 c = search needs
+
+shared-slice-read-spelt-6 : tie.Need-shared-slice-read-spelt-6
+shared-slice-read-spelt-6 c = search needs
+
+shared-slice-read-spelt-7 : tie.Need-shared-slice-read-spelt-7
+shared-slice-read-spelt-7 c = search needs
+
+shared-slice-read-spelt-8 : tie.Need-shared-slice-read-spelt-8
+shared-slice-read-spelt-8 c = search needs
+
+spelt-requires : tie.Need-spelt-requires
+spelt-requires c κs = search needs
 
 returns : tie.Need-returns
 returns c =
-    omega (arith, num-two-parts 4 4 (c .before .before .before .args .at) (now (c .before .before .before .args .s)) (search needs), c .before .read-u32 .ensures, c .read-u322 .ensures)
+    c .spelt .ensures ∙ num-eight (now (c .before .before .before .before .before .before .before .before .before .before .before .args .s)) _ (c .before .before .before .before .before .before .before .before .before .before .before .pre)
 
 pub read-u64-spec : {M : Type 1} → statement M
 read-u64-spec =
     tie.close
     (tie.spec
-    read-u32-requires
-    cast-result
-    add-read-u32
-    read-u32-requires-2
-    cast-result-2
-    mul-result
-    add-result
+    add-end
+    sub-b
+    part-b-start
+    part-b-end
+    shared-slice-read-spelt
+    shared-slice-read-spelt-2
+    shared-slice-read-spelt-3
+    shared-slice-read-spelt-4
+    shared-slice-read-spelt-5
+    shared-slice-read-spelt-6
+    shared-slice-read-spelt-7
+    shared-slice-read-spelt-8
+    spelt-requires
     returns)

@@ -124,6 +124,15 @@ fn leaves(text: &mut String, leaves: &[Measure]) {
     }
 }
 
+fn numbers(text: &mut String, numbers: &[Measure]) {
+    *text += "\nA million eight-byte numbers read and added up, or stored, µs: in one slice, and in a slice of a thousand again and again. The target is at most 1.05.\n\n";
+    *text += "| | Numbers in the slice | Library | Rust | Library / Rust |\n|---|---:|---:|---:|---:|\n";
+    for m in numbers {
+        let cells = [&m.times.ours, &m.times.rust].map(|samples| nanoseconds(samples.median() / 1e3)).join(" | ");
+        writeln!(text, "| {} | {} | {cells} | {} |", m.call, grouped(m.bytes), ratio(to_rust(m))).unwrap();
+    }
+}
+
 fn growing(text: &mut String, in_order: &[Measure], shuffled: &[Measure]) {
     *text += "\nInsert of 32 bytes at E = 64 as the free list grows, ns a call.\n\n";
     *text += "| Members | Library, linked slot by slot | Library, in any order | Rust, in any order |\n";
@@ -152,7 +161,7 @@ fn target(text: &mut String, words: &str, misses: Vec<String>) {
     writeln!(text, "- {words}: {found}.").unwrap();
 }
 
-fn targets(text: &mut String, measures: &[Measure]) {
+fn targets(text: &mut String, measures: &[Measure], numbers: &[Measure]) {
     let missing = |judged: &dyn Fn(&Measure) -> Option<f64>, most: f64| -> Vec<String> {
         let over = |m: &Measure| {
             judged(m).filter(|found| *found > most).map(|found| format!("{} of {} bytes ({})", m.call, grouped(m.bytes), ratio(found)))
@@ -169,16 +178,23 @@ fn targets(text: &mut String, measures: &[Measure]) {
         let words = format!("a read of {} bytes at most {most} times memcpy", grouped(bytes));
         target(text, &words, missing(&|m| (m.call == "read" && m.bytes == bytes).then(|| to_memcpy(m)), most));
     }
+    let slower = numbers
+        .iter()
+        .filter(|m| to_rust(m) > 1.05)
+        .map(|m| format!("{} of {} ({})", m.call, grouped(m.bytes), ratio(to_rust(m))))
+        .collect();
+    target(text, "eight-byte numbers read and stored in at most 1.05 times the Rust's time", slower);
 }
 
 /// All that was measured, as it stands in the document.
-pub fn text(machine: &str, measures: &[Measure], apart: &[Measure], in_order: &[Measure], shuffled: &[Measure]) -> String {
+pub fn text(machine: &str, measures: &[Measure], apart: [&[Measure]; 2], grown: [&[Measure]; 2]) -> String {
     let mut text = format!("{machine}\n\n");
     writing(&mut text, measures);
     reading(&mut text, measures);
-    leaves(&mut text, apart);
-    growing(&mut text, in_order, shuffled);
-    targets(&mut text, measures);
+    leaves(&mut text, apart[0]);
+    numbers(&mut text, apart[1]);
+    growing(&mut text, grown[0], grown[1]);
+    targets(&mut text, measures, apart[1]);
     text
 }
 

@@ -2,21 +2,21 @@
 //! the marks of docs/SPEED.md, and draws docs/speed.svg. `./bench` in the repository's root builds and runs it; docs/SPEED.md says
 //! what is timed and what is not. With `--quick` a fiftieth of the rounds are run, and the documents stay as they are.
 
-#[cfg(station)]
+#[cfg(all(station, number_loops))]
 mod document;
-#[cfg(station)]
+#[cfg(all(station, number_loops))]
 #[path = "../../functions.rs"]
 mod functions;
-#[cfg(station)]
+#[cfg(all(station, number_loops))]
 mod leaves;
-#[cfg(station)]
+#[cfg(all(station, number_loops))]
 mod measure;
-#[cfg(station)]
+#[cfg(all(station, number_loops))]
 mod plot;
-#[cfg(station)]
+#[cfg(all(station, number_loops))]
 mod tables;
 
-#[cfg(station)]
+#[cfg(all(station, number_loops))]
 fn main() {
     if !original::PRESENT {
         println!("skipped: the Rust's files are not in ../shared/docs/src, and PYLTARKA_RUST names no other folder: there is nothing to compare with");
@@ -27,15 +27,17 @@ fn main() {
     let machine = document::machine();
     let mut folders = tables::Folders::new();
     let mut measures = measure::sizes(&mut folders);
-    let mut leaves = leaves::leaves();
+    let mut leaves = leaves::by_parts();
+    let mut numbers = leaves::numbers();
     let mut in_order = measure::growth(false, &mut folders);
     let mut shuffled = measure::growth(true, &mut folders);
     original::Table::unlimited();
     measure::run(&mut measures, rounds);
     measure::run(&mut leaves, rounds);
+    measure::run(&mut numbers, rounds);
     measure::run(&mut in_order, rounds);
     measure::run(&mut shuffled, rounds);
-    let text = document::text(&machine, &measures, &leaves, &in_order, &shuffled);
+    let text = document::text(&machine, &measures, [&leaves, &numbers], [&in_order, &shuffled]);
     println!("{text}");
     if quick {
         return;
@@ -47,7 +49,7 @@ fn main() {
     println!("written: docs/SPEED.md, docs/speed.svg");
 }
 
-#[cfg(not(station))]
+#[cfg(not(all(station, number_loops)))]
 fn main() {
-    println!("skipped: target/staticlib/libstation.a was not there when this was built; `rt staticlib station` writes it");
+    println!("skipped: libstation.a or libnumber_loops.a was not in target/staticlib when this was built; `./bench` writes both");
 }
