@@ -1,5 +1,7 @@
 // The checks of the calls, a stage each. They take the table as `&[u8]`, so that a refused call has nothing to write with.
 // Here those that several calls share: the table (1, 2, 3), the key (4), a record (1 to 4, 7 to 10).
+#![tactic(auto)]
+
 pub mod room;
 pub mod value;
 pub mod writing;

@@ -1,4 +1,6 @@
 // The content of a chain copied out: any number of its bytes, from any place in it on.
+#![tactic(auto)]
+
 ghost use Rattle.std.specs.Prelude.{◌≡◌, false, List, ℕ, min, length, take, drop};
 ghost use Rattle.definition.specs.Numbers.{put};
 ghost use Rattle.definition.specs.Settings.{bad_settings};

@@ -1,5 +1,7 @@
 // A part of a slice copied into a part of another: a short one by words, a longer one by blocks, of which the compiler makes calls of
 // memmove. A loop of its own moves 16 bytes a store, since it serves every x86-64.
+#![tactic(auto)]
+
 ghost use Rattle.std.specs.Prelude.{◌≡◌, ◌+◌, ◌≤◌, ◌<◌, length, take, drop};
 ghost use Rattle.definition.specs.Numbers.{put};
 

@@ -1,4 +1,6 @@
 // The count of a record: found in its slot, with the tests of slot and head, changed by a signed step, and stored in its place.
+#![tactic(auto)]
+
 ghost use Rattle.std.specs.Prelude.{◌≡◌, false, ◌+◌, ◌*◌, ◌≤◌, nat_abs, length};
 ghost use Rattle.definition.specs.Numbers.{bytes, put};
 ghost use Rattle.definition.specs.Settings.{bad_settings, start_overhead};

@@ -1,5 +1,7 @@
 // The types that every other crate shares: a table's settings, the refusals with their numbers, which kind of part a slot
 // holds, and what each call answers. What the calls mean is defined over these types in specs/; nothing here does any work.
+#![tactic(auto)]
+
 ghost use Rattle.std.specs.Prelude.{◌≡◌};
 ghost use Rattle.definition.specs.Tests.{number_of};
 

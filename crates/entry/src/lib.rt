@@ -1,6 +1,8 @@
 // The reader of one slot: the slot and the place of the next byte, in one struct, as Rust's EntryRef. The struct holds a
 // reference, so each function over it is proved by hand; each takes it apart and leaves the work to a function on the plain
 // slice and number. `u64_at` has plain parameters: whoever calls it needs no proof by hand.
+#![tactic(auto)]
+
 ghost use Rattle.std.specs.Prelude.{◌≡◌, ◌+◌, ◌≤◌, length};
 ghost use Rattle.definition.specs.Numbers.{num};
 ghost use Rattle.definition.specs.Settings.{key_bytes};

@@ -1,5 +1,7 @@
 // Makes calls on a table in memory as its input asks, a line each, and writes each line followed by its answer: so 01's figures and the
 // recorded answers are data. src/calls.rt has the lines that it takes. Comments (#) and empty lines are only written.
+#![tactic(auto)]
+
 mod answers;
 mod calls;
 

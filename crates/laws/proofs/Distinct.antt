@@ -38,7 +38,7 @@ unfolding occ
 once_cons x l again once i =
     by_order x i
     (λ b. omega (arith, hit_other i x (omega arith), once i))
-    (λ (e : i ≡ x). rw e (by_order 0 (occ x l) (λ b. absurd (omega arith)) (λ z. omega (arith, hit_same x)) (λ b. absurd (again b))))
+    (λ (e : i ≡ x). subst (λ (j : ℕ). occ j (x ∷ l) ≤ 1) (sym e) (by_order 0 (occ x l) (λ b. absurd (omega arith)) (λ z. omega (arith, hit_same x)) (λ b. absurd (again b))))
     (λ b. omega (arith, hit_other i x (omega arith), once i))
 
 -- ---- the free list

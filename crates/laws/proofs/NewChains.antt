@@ -174,7 +174,7 @@ module _ (s : Settings) (f g : View) (G : ℕ) (key content : List ℕ) (mark : 
       let contents : content_of s g (x ∷ y ∷ l) ≡ content = ap (drop (prefix_len s)) body ∙ drop_at (prefix s key) content (prefix_len s) pre in
       let total : total_of (g x) ≡ length content = rw st (head_total s mark (length content) y p (f x) short) in
       let link : head_link s (g x) ≡ y = rw st (head_link_lem s mark (length content) y p (f x) yb) in
-      let tail : TailAt true s g G x (y ∷ l) = (rw (marks, link) r.0, eq-eqb _ _ (total ∙ sym (ap length contents))) in
+      let tail : TailAt true s g G x (y ∷ l) = (subst (λ (a : ℕ). RestAt s g G (mark_of s (g x)) true a (y ∷ l)) (sym link) (subst (λ (b : Bool). RestAt s g G b true y (y ∷ l)) (sym marks) r.0), eq-eqb _ _ (total ∙ sym (ap length contents))) in
       record {
         chain = (refl, n.0, n.1, head_passes_multi s (g x) one m (rw st (head_mark_lem s mark (length content) y p (f x))), subst (λ (d : Bool). TailAt d s g G x (y ∷ l)) (sym m) tail);
         contents = contents;

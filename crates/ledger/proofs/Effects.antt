@@ -103,7 +103,7 @@ module _ {s : Settings} {f : View} {F : ℕ} {free : List ℕ} {ch : ℕ → Lis
       (set_at ch hd (new_slots (ch hd) free F (length ps)))
   stored_parted p q new_chain =
       effect_parted v hd (length ps) (upd_all f (effect s mark total ps (ch hd) free F)) p q new_chain free_after_lem
-      (λ h ne m. started_idle s _ _ hd (new_slots (ch hd) free F (length ps)) hi new_chain h ne m)
+      (λ h ne m. started_idle s (upd_all f (effect s mark total ps (ch hd) free F)) (filled_after (ch hd) free F (length ps)) hd (new_slots (ch hd) free F (length ps)) hi new_chain h ne m)
       (λ h m. free_idle s _ (free_marked _ _ _ (free_after (ch hd) free (length ps)) free_after_lem h (omega (arith, occ_free_after (ch hd) free F (length ps) h))))
       unmoved
 

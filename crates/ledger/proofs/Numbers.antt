@@ -10,11 +10,11 @@ use mathlib.Core.Option.{Option, none, some}
 use lib.ListN.{length}
 use Rattle.definition.specs.declared.Settings.{Settings}
 use Rattle.definition.specs.Tests.{refuse, first}
-use Rattle.definition.specs.Slots.{View, view, filled, mark_of, head_link, link_of}
+use Rattle.definition.specs.Slots.{View, view, store, filled, mark_of, head_link, link_of}
 use Rattle.definition.specs.FreeList.{free_list}
 use Rattle.definition.specs.Chains.{Walk, whole, head_fault, last_fault, parts_from, with_total, walk}
 use Rattle.definition.specs.Answers.{Answer, refusal, found}
-use Rattle.definition.specs.Calls.{capacity, settings_test, buffer_test, header_test, key_test, checked_key_test, uncounted_test, value_test, slot_test, free_list_test, room_test, output_test, table_tests, value_tests, chain_tests, unless, Writing, Insert, Replace, Remove, Change, decision, read, fixed_tests, look_fixed, find_fixed, free_count}
+use Rattle.definition.specs.Calls.{capacity, settings_test, buffer_test, header_test, key_test, checked_key_test, uncounted_test, value_test, slot_test, free_list_test, room_test, output_test, table_tests, value_tests, chain_tests, unless, Writing, Insert, Replace, Remove, Change, decision, supply_of, read, fixed_tests, look_fixed, find_fixed, free_count}
 use Rattle.definition.specs.Sound.{hit, occ}
 use Rattle.definition.specs.Ledger.{Read, ReadFixed, FindFixed, FreeCount, Call, Write, Look}
 use Rattle.definition.specs.Run.{run}
@@ -118,7 +118,7 @@ among : (l : List ℕ) (m : ℕ) (old : List ℕ) (out : Answer × List ℕ) (n 
 unfolding occ
 among l m old out n g e a =
     let r = unless_refused_lem m old out n g e in
-    let b : 0 < occ n (0 ∷ l) = rw r.1 at a in
+    let b : 0 < occ n (0 ∷ l) = subst (λ (j : ℕ). 0 < occ j (0 ∷ l)) r.1 a in
     omega (arith, hit_other n 0 (omega (arith, r.2)))
 
 -- each test of a writing call
@@ -194,7 +194,7 @@ module _ (s : Settings) (t : List ℕ) (n : ℕ) where
 pub refusal_among : (s : Settings) (c : Call) (t : List ℕ) (n : ℕ) → (run s (teller c) t).answer ≡ refusal n → 0 < occ n (numbers_of c)
 unfolding teller run find_fixed numbers_of occ hit
 refusal_among s (Write w) t n e =
-    among (numbers_of (Write w)) _ t _ n (decided_granted s _ _ w) e (first_is (Among (numbers_of (Write w))) (omega arith) _ (writes_among s t w))
+    among (numbers_of (Write w)) _ t ((decision s w t).answer, store s.size t (decision s w t).stores) n (decided_granted s (supply_of s t) (view s.size t) w) e (first_is (Among (numbers_of (Write w))) (omega arith) _ (writes_among s t w))
 refusal_among s (Look (Read k h out)) t n e = read_among s t n k h out e
 refusal_among s (Look (ReadFixed k h)) t n e = look_among s t n k h e
 refusal_among s (Look (FindFixed k h)) t n e = look_among s t n k h e

@@ -8,9 +8,9 @@ use mathlib.Core.Bool.{Bool}
 use mathlib.Core.List.{List, []}
 use mathlib.Core.Option.{Option, none, some}
 use Rattle.definition.specs.declared.Settings.{Settings}
-use Rattle.definition.specs.Slots.{View}
+use Rattle.definition.specs.Slots.{View, view, store}
 use Rattle.definition.specs.Answers.{Answer, refusal, at, accepted, found, content, members}
-use Rattle.definition.specs.Calls.{unless, answer_unless, Supply, counted, Writing, Insert, Replace, Remove, Change, decide, read, look_fixed, read_fixed, find_fixed, free_count}
+use Rattle.definition.specs.Calls.{unless, answer_unless, Supply, counted, Writing, Insert, Replace, Remove, Change, decide, decision, supply_of, read, look_fixed, read_fixed, find_fixed, free_count}
 use Rattle.definition.specs.Ledger.{Read, ReadFixed, FindFixed, FreeCount, Call, Write, Look, Outcome, wrote, told}
 use Rattle.definition.specs.Run.{run}
 
@@ -76,7 +76,7 @@ members_granted m n e = let z : ◌≡◌ {A = ℕ} 0 1 = cc in omega arith
 pub refused_leaves : (s : Settings) (c : Call) (t : List ℕ) (n : ℕ) → (run s (teller c) t).answer ≡ refusal n
     → run s c t ≡ refused_with n c t
 unfolding teller refused_with run read read_fixed find_fixed look_fixed free_count
-refused_leaves s (Write w) t n e = ap (λ (r : Answer × List ℕ). wrote r) (unless_refused_lem _ t _ n (decided_granted s _ _ w) e).0
+refused_leaves s (Write w) t n e = ap (λ (r : Answer × List ℕ). wrote r) (unless_refused_lem _ t ((decision s w t).answer, store s.size t (decision s w t).stores) n (decided_granted s (supply_of s t) (view s.size t) w) e).0
 refused_leaves s (Look (Read k h out)) t n e = ap (λ (r : Answer × List ℕ). told t r) (unless_refused_lem _ out _ n (found_granted _ _ _ _) e).0
 refused_leaves s (Look (ReadFixed k h)) t n e = ap (λ (r : Answer × List ℕ). told t (content r.1, [])) (unless_refused_lem _ [] _ n (found_granted _ _ _ _) e).0
 refused_leaves s (Look (FindFixed k h)) t n e = ap (λ (r : Answer × List ℕ). told t (r.0, [])) (unless_refused_lem _ [] _ n (found_granted _ _ _ _) e).0

@@ -1,5 +1,7 @@
 // Loops over eight-byte numbers as C functions, for the benchmark alone: `rt staticlib number_loops`. The library that is shipped has
 // none of it. They are proved safe and ending; that their answers are the Rust's, the benchmark compares.
+#![tactic(auto)]
+
 use numbers::{read_u64, write_u64};
 
 // The sum of the numbers in s, eight bytes each, as it wraps.

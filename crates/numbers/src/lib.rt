@@ -1,5 +1,7 @@
 // Numbers in slices: little-endian numbers read and stored, and marks as pairs of bytes.
 // Of a slot it knows only that its mark stands first.
+#![tactic(auto)]
+
 ghost use Rattle.std.specs.Prelude.{◌≡◌, [], ◌∷◌, ◌+◌, ◌≤◌, length, get_or};
 ghost use Rattle.definition.specs.Numbers.{bytes, le, num, put};
 ghost use Rattle.definition.specs.Slots.{marked};

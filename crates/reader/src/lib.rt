@@ -1,4 +1,6 @@
 // The slot reader: marks, sizes, links and counts of one slot, the parse of a head and of a later part.
+#![tactic(auto)]
+
 ghost use Rattle.std.specs.Prelude.{◌≡◌, Bool, false, ◌&&◌, not, ◌-◌, ◌≤◌, ltb, length};
 ghost use Rattle.definition.specs.Tests.{number_of};
 ghost use Rattle.definition.specs.Settings.{word_bytes, link_overhead, bad_settings, prefix_len};

@@ -1,6 +1,8 @@
 // The calls of the station for C and whatever links C: `rt staticlib station` writes them as target/staticlib/libstation.a, and
 // include/pyltarka.h declares them. Each is a call of `table` under its whole contract, its settings and its answer in C's form.
 // A slice is a pointer and a length; a null pointer with length 0 is an empty one.
+#![tactic(auto)]
+
 mod answers;
 
 ghost use Rattle.std.specs.Prelude.{◌≡◌};

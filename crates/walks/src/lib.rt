@@ -1,4 +1,6 @@
 // Walks over several slots: the free list, and the parts of a chain. Nothing here writes a table.
+#![tactic(auto)]
+
 pub mod chain;
 pub mod free_list;
 

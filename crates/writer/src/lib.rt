@@ -1,5 +1,7 @@
 // The slot writer: each kind of slot written over a slot's front, and the slot lent on from the middle of the table.
 // `prefix` and `content` are the two parts of what a chain holds, and `pos` a place in both joined.
+#![tactic(auto)]
+
 ghost use Rattle.std.specs.Prelude.{◌≡◌, false, cond, ◌++◌, ◌+◌, ◌-◌, ◌*◌, ◌≤◌, ◌<◌, length, take, drop};
 ghost use Rattle.definition.specs.Numbers.{put};
 ghost use Rattle.definition.specs.Settings.{word_bytes, link_overhead, bad_settings, head_overhead};

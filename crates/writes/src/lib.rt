@@ -1,5 +1,7 @@
 // The writing loop: prefix and content laid into slots, what is left of the old chain freed, the header stored.
 // Nothing here refuses: the checks are made before, by others, and from the first store on nothing can go wrong.
+#![tactic(auto)]
+
 pub mod records;
 
 ghost use Rattle.std.specs.Prelude.{◌≡◌, false, ℕ, ◌+◌, ◌-◌, ◌*◌, ◌≤◌, ◌<◌, length};
