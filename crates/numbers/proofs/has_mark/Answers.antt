@@ -1,12 +1,11 @@
-use Rattle.std.proofs.Common.{rules, ◌≡◌, [], ◌∷◌, ◌+◌, ◌≤◌, length, get_or, ℕ, ◌-◌, ◌*◌, ◌<◌, ◌/◌, ◌%◌, Bool, true, false, nat_eq, nat_lt, List, ◌++◌, slice_set, bit_and, bit_or, Fits, w8, w32, w64, Bor, MutBor}
-use Rattle.definition.specs.Numbers.{bytes, le, num, put}
-use Rattle.definition.specs.Slots.{marked}
+use borrow.Author.Tests.{eq-eqb, ne_eqb}
+use Rattle.numbers.proofs.Marks.{marked_pair}
 use Rattle.numbers.proofs.has_mark.Goals as goal
 
--- src/lib.rt:89:1
 pub returns-then-slot-mark : goal.returns-then-slot-mark
-returns-then-slot-mark c = ?
+returns-then-slot-mark c =
+    rw (marked_pair c.args.slot.now _ _ c.requires, eq-eqb _ _ c.if-slot-mark.true)
 
--- src/lib.rt:89:1
 pub returns-else-slot-mark : goal.returns-else-slot-mark
-returns-else-slot-mark c = ?
+returns-else-slot-mark c =
+    rw (marked_pair c.args.slot.now _ _ c.requires, ne_eqb _ _ c.if-slot-mark.false)

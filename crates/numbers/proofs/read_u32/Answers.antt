@@ -1,8 +1,8 @@
-use Rattle.std.proofs.Common.{rules, ◌≡◌, [], ◌∷◌, ◌+◌, ◌≤◌, length, get_or, ℕ, ◌-◌, ◌*◌, ◌<◌, ◌/◌, ◌%◌, Bool, true, false, nat_eq, nat_lt, List, ◌++◌, slice_set, bit_and, bit_or, Fits, w8, w32, w64, Bor, MutBor}
-use Rattle.definition.specs.Numbers.{bytes, le, num, put}
-use Rattle.definition.specs.Slots.{marked}
+use native.Mathlib.Omega.{arith}
+use borrow.Author.Rules.{rules}
+use Rattle.laws.proofs.Bytes.{num_two_parts}
 use Rattle.numbers.proofs.read_u32.Goals as goal
 
--- src/lib.rt:20:1
 pub returns : goal.returns
-returns c = ?
+returns c =
+    omega (arith, num_two_parts 2 2 c.args.at c.args.s.now (search rules), c.read_u16.ensures, c.read_u16-2.ensures)

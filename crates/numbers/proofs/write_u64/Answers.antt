@@ -1,8 +1,7 @@
-use Rattle.std.proofs.Common.{rules, ◌≡◌, [], ◌∷◌, ◌+◌, ◌≤◌, length, get_or, ℕ, ◌-◌, ◌*◌, ◌<◌, ◌/◌, ◌%◌, Bool, true, false, nat_eq, nat_lt, List, ◌++◌, slice_set, bit_and, bit_or, Fits, w8, w32, w64, Bor, MutBor}
-use Rattle.definition.specs.Numbers.{bytes, le, num, put}
-use Rattle.definition.specs.Slots.{marked}
+use native.Mathlib.Omega.{arith}
+use Rattle.numbers.proofs.Eights.{put_eight}
 use Rattle.numbers.proofs.write_u64.Goals as goal
 
--- src/lib.rt:70:1
 pub returns : goal.returns
-returns c = ?
+returns c =
+    put_eight c.args.s.now _ _ c.requires (omega arith)
