@@ -19,7 +19,7 @@ use walks::Walked;
 use walks::chain::check_chain;
 
 // What tests 1, 2 and 3 leave of a table: its header.
-#[derive(Drop)]
+#[derive(Clone, Copy)]
 pub enum Opened {
     Table(Header),
     Refused(Refusal),

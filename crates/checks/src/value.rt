@@ -9,7 +9,7 @@ use definition::{Refusal, Settings};
 use slots::settings::{head_overhead, prefix_len};
 
 // The parts that a value needs, its tests passed.
-#[derive(Drop)]
+#[derive(Clone, Copy)]
 pub enum Valued {
     Parts(u64),
     Refused(Refusal),

@@ -10,7 +10,7 @@ use walks::chain::check_chain;
 use walks::free_list::check_free_refs;
 
 // Whether a replacement has as many parts as the chain has, so that no slot is taken or freed; its tests passed.
-#[derive(Drop)]
+#[derive(Clone, Copy)]
 pub enum Fitted {
     Same(bool),
     Refused(Refusal),

@@ -12,7 +12,7 @@ use reader::{is_continuation, part_size, read_head_next, read_next};
 use slots::settings::{head_overhead, prefix_len};
 
 // Where a slot's piece of prefix and content lies in it, and the link to the next part, 0 if there is none.
-#[derive(Drop)]
+#[derive(Clone, Copy)]
 pub struct Span {
     pub start: usize,
     pub size: usize,

@@ -14,14 +14,14 @@ use reader::{parse_head, read_count};
 use slots::settings::start_overhead;
 
 // The count in a slot whose tests passed, or why it is refused.
-#[derive(Drop)]
+#[derive(Clone, Copy)]
 pub enum Counted {
     Count(u32),
     Refused(Refusal),
 }
 
 // A count after a step: what is stored, or nothing is left.
-#[derive(Drop)]
+#[derive(Clone, Copy)]
 pub enum Stepped {
     Count(u32),
     Last,

@@ -38,7 +38,7 @@ pub const MULTIPART_ENTRY_SIZE: usize = 4096;
 pub const LOCKED_REF: u32 = 0xffff_ffff;
 
 // A table's settings: the entry size E in bytes, multipart or fixed, counted or not, keyed or not.
-#[derive(Drop)]
+#[derive(Clone, Copy)]
 pub struct Settings {
     pub size: usize,
     pub multipart: bool,
@@ -47,7 +47,7 @@ pub struct Settings {
 }
 
 // The refusals, by document 01's names and in the order of its numbers.
-#[derive(Drop)]
+#[derive(Clone, Copy)]
 pub enum Refusal {
     Settings,
     Buffer,
@@ -88,14 +88,14 @@ impl Refusal {
 }
 
 // LAST_REMOVED and FILLED, as slot 0 holds them. A stored FILLED of 0 has become 1.
-#[derive(Drop)]
+#[derive(Clone, Copy)]
 pub struct Header {
     pub removed: u64,
     pub filled: u64,
 }
 
 // Which kind of part a slot holds, with its link. A last part, and a plain slot, store none: their link is 0.
-#[derive(Drop)]
+#[derive(Clone, Copy)]
 pub enum PartKind {
     Head(u64),
     Continuation(u64),
@@ -103,28 +103,28 @@ pub enum PartKind {
 }
 
 // What a look at a slot finds: a part, with the bytes of prefix and content that it holds, or why it is refused.
-#[derive(Drop)]
+#[derive(Clone, Copy)]
 pub enum Parsed {
     Part(PartKind, usize),
     Refused(Refusal),
 }
 
 // What insert answers: the head's slot.
-#[derive(Drop)]
+#[derive(Clone, Copy)]
 pub enum Inserted {
     At(u64),
     Refused(Refusal),
 }
 
 // What replace and remove answer.
-#[derive(Drop)]
+#[derive(Clone, Copy)]
 pub enum Written {
     Accepted,
     Refused(Refusal),
 }
 
 // What a change of the count answers.
-#[derive(Drop)]
+#[derive(Clone, Copy)]
 pub enum Changed {
     Count(u32),
     LastReference,
@@ -132,7 +132,7 @@ pub enum Changed {
 }
 
 // What a read tells of a record, its content aside: the content's length, the compressed mark, the count, the slots visited.
-#[derive(Drop)]
+#[derive(Clone, Copy)]
 pub struct Record {
     pub len: u64,
     pub mark: bool,
@@ -141,14 +141,14 @@ pub struct Record {
 }
 
 // What a read answers.
-#[derive(Drop)]
+#[derive(Clone, Copy)]
 pub enum Found {
     Content(Record),
     Refused(Refusal),
 }
 
 // What the free count answers: the members of the free list.
-#[derive(Drop)]
+#[derive(Clone, Copy)]
 pub enum FreeCount {
     Members(u64),
     Refused(Refusal),

@@ -16,7 +16,7 @@ pub struct EntryRef<'a> {
 }
 
 // A partial key, 26 bytes as numbers: three of eight bytes and one of two.
-#[derive(Drop)]
+#[derive(Clone, Copy)]
 pub struct PartialKey {
     pub first: u64,
     pub second: u64,

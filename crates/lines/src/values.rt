@@ -5,7 +5,7 @@ use crate::words;
 const NONE: usize = usize::MAX;
 
 // What a stretch of bytes is filled with: one byte; the letters given with it; the bytes that those spell; key K; the content with seed S.
-#[derive(Drop)]
+#[derive(Clone, Copy)]
 pub enum Filling {
     Same(u8),
     Text,

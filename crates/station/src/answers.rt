@@ -8,7 +8,7 @@ use definition::{Changed, Found, FreeCount, Inserted, Settings, Written};
 
 // A table's settings: the entry size E in bytes, multipart or fixed, counted or not, keyed or not.
 #[repr(C)]
-#[derive(Drop)]
+#[derive(Clone, Copy)]
 pub struct PyltarkaSettings {
     pub entry_size: u64,
     pub multipart: bool,
@@ -18,7 +18,7 @@ pub struct PyltarkaSettings {
 
 // What insert answers: the head's slot, and 0 or the refusal.
 #[repr(C)]
-#[derive(Drop)]
+#[derive(Clone, Copy)]
 pub struct PyltarkaInserted {
     pub slot: u64,
     pub number: u32,
@@ -26,7 +26,7 @@ pub struct PyltarkaInserted {
 
 // What a change of the count answers: 0 or the refusal, the stored count, whether nothing was left.
 #[repr(C)]
-#[derive(Drop)]
+#[derive(Clone, Copy)]
 pub struct PyltarkaChanged {
     pub number: u32,
     pub count: u32,
@@ -35,7 +35,7 @@ pub struct PyltarkaChanged {
 
 // What the copying read answers: the content's length, the slots visited, 0 or the refusal, the count, the compressed mark.
 #[repr(C)]
-#[derive(Drop)]
+#[derive(Clone, Copy)]
 pub struct PyltarkaRecord {
     pub length: u64,
     pub visits: u64,
@@ -46,7 +46,7 @@ pub struct PyltarkaRecord {
 
 // What the fixed read answers: where the content starts in the table, and what the copying read answers.
 #[repr(C)]
-#[derive(Drop)]
+#[derive(Clone, Copy)]
 pub struct PyltarkaPart {
     pub offset: u64,
     pub length: u64,
@@ -58,7 +58,7 @@ pub struct PyltarkaPart {
 
 // What the free count answers: the members of the free list, and 0 or the refusal.
 #[repr(C)]
-#[derive(Drop)]
+#[derive(Clone, Copy)]
 pub struct PyltarkaCounted {
     pub count: u64,
     pub number: u32,

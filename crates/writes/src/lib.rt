@@ -21,7 +21,7 @@ use slots::settings::head_overhead;
 use writer::{store_continuation, store_free, store_head, store_sized};
 
 // A slot that was taken; then the old chain's next slot, 0 if there is none, and LAST_REMOVED and FILLED.
-#[derive(Drop)]
+#[derive(Clone, Copy)]
 struct Taken {
     slot: u64,
     rest: u64,
