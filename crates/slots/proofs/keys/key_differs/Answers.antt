@@ -1,5 +1,6 @@
 use mathlib.Core.Path.{◌≡◌, ◌∙◌, ap}
 use lib.ListN.{take, drop}
+use borrow.Author.Tests.{not-true, not-false}
 use native.Mathlib.Omega.{arith}
 use Prim.Native.Nat.{ℕ, ◌+◌}
 use Rattle.definition.specs.Settings.{count_len, start_overhead}
@@ -17,7 +18,7 @@ returns-then-not-checked c =
 pub returns-then-not-s : goal.returns-then-not-s
 returns-then-not-s c =
     let a = c.args in
-    unkeyed a.s a.checked a.key.now a.slot.now c.if-not-checked.false c.if-not-s.true
+    unkeyed a.s a.checked a.key.now a.slot.now c.if-not-checked.false (not-true a.s.keyed c.if-not-s.true)
 
 pub overflow_add-at : goal.overflow_add-at
 overflow_add-at c =
@@ -27,12 +28,12 @@ pub same_key-requires : goal.same_key-requires
 same_key-requires c =
     let a = c.args in
     let p = c.requires in
-    let f = key_fits a.s a.checked a.key.now a.slot.now c.if-not-checked.false c.if-not-s.false p.0 p.1 p.2 in
+    let f = key_fits a.s a.checked a.key.now a.slot.now c.if-not-checked.false (not-false a.s.keyed c.if-not-s.false) p.0 p.1 p.2 in
     (omega (arith, f.0, c.start_overhead.ensures, c.count_len.ensures), f.1)
 
 pub returns : goal.returns
 returns c =
     let a = c.args in
     let at : c.start_overhead.result + c.count_len.result ≡ start_overhead a.s + count_len a.s = omega (arith, c.start_overhead.ensures, c.count_len.ensures) in
-    compared a.s a.checked a.key.now a.slot.now c.if-not-checked.false c.if-not-s.false c.same_key.result
+    compared a.s a.checked a.key.now a.slot.now c.if-not-checked.false (not-false a.s.keyed c.if-not-s.false) c.same_key.result
     (c.same_key.ensures ∙ ap (λ (k : ℕ). same_bytes (take 26 (drop k a.slot.now)) (partial_key a.key.now)) at)
