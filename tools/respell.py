@@ -33,6 +33,7 @@ CHOSEN = {
     "free_one": "free_one_lem",
     "free_in": "free_in_lem",
     "inForm": "forms_of",
+    "lastReference": "last_reference_answer",
     "chain-tests": "chain_tests_lem",
     "part-start": "part_start_lem",
     "sized-body": "sized_body_lem",
@@ -58,7 +59,7 @@ def camel(name):
 
 def lemma_files():
     for p in sorted(glob.glob("crates/*/specs/**/*.antt", recursive=True)) + sorted(glob.glob("crates/*/proofs/**/*.antt", recursive=True)):
-        if not p.endswith(("/Proof.antt", "/Answers.antt", "/Invariants.antt")):
+        if "/specs/" in p or not p.endswith(("/Proof.antt", "/Answers.antt", "/Invariants.antt")):
             yield p
 
 

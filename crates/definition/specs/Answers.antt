@@ -20,7 +20,7 @@ pub data Answer : Type 0 where
   -- change: the count that was stored
   count : ℕ → Answer
   -- change: nothing is left, and nothing is written
-  lastReference : Answer
+  last_reference_answer : Answer
   -- copying read, and the fixed read's companion: content length, compressed mark, count, slots visited
   found : ℕ → Bool → ℕ → ℕ → Answer
   -- fixed read: the content, a part of the table
@@ -28,27 +28,27 @@ pub data Answer : Type 0 where
   -- free count: the members of the free list
   members : ℕ → Answer
 
-abbrev pub parseOf : Parsed → Parse
-parseOf (Parsed.Part k n) = part k n
-parseOf (Parsed.Refused r) = refused (number_of r)
+abbrev pub parse_of : Parsed → Parse
+parse_of (Parsed.Part k n) = part k n
+parse_of (Parsed.Refused r) = refused (number_of r)
 
-abbrev pub insertedOf : Inserted → Answer
-insertedOf (Inserted.At h) = at h
-insertedOf (Inserted.Refused r) = refusal (number_of r)
+abbrev pub inserted_of : Inserted → Answer
+inserted_of (Inserted.At h) = at h
+inserted_of (Inserted.Refused r) = refusal (number_of r)
 
 abbrev pub written_of : Written → Answer
 written_of Written.Accepted = accepted
 written_of (Written.Refused r) = refusal (number_of r)
 
-abbrev pub changedOf : Changed → Answer
-changedOf (Changed.Count n) = count n
-changedOf Changed.LastReference = lastReference
-changedOf (Changed.Refused r) = refusal (number_of r)
+abbrev pub changed_of : Changed → Answer
+changed_of (Changed.Count n) = count n
+changed_of Changed.LastReference = last_reference_answer
+changed_of (Changed.Refused r) = refusal (number_of r)
 
-abbrev pub foundOf : Found → Answer
-foundOf (Found.Content r) = found r.len r.mark r.count r.visits
-foundOf (Found.Refused r) = refusal (number_of r)
+abbrev pub found_of : Found → Answer
+found_of (Found.Content r) = found r.len r.mark r.count r.visits
+found_of (Found.Refused r) = refusal (number_of r)
 
-abbrev pub freeCountOf : FreeCount → Answer
-freeCountOf (FreeCount.Members n) = members n
-freeCountOf (FreeCount.Refused r) = refusal (number_of r)
+abbrev pub free_count_of : FreeCount → Answer
+free_count_of (FreeCount.Members n) = members n
+free_count_of (FreeCount.Refused r) = refusal (number_of r)

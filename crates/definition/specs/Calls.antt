@@ -12,7 +12,7 @@ use Rattle.definition.specs.FreeList.{free_list, members_of}
 use Rattle.definition.specs.Chains.{head_fault, walk, content_of}
 use Rattle.definition.specs.Parts.{prefix, pieces}
 use Rattle.definition.specs.Effect.{new_slots, effect}
-use Rattle.definition.specs.Answers.{Answer, refusal, at, accepted, count, lastReference, found, members}
+use Rattle.definition.specs.Answers.{Answer, refusal, at, accepted, count, last_reference_answer, found, members}
 
 -- ---- the tests, each with its number
 
@@ -139,7 +139,7 @@ count_store s h b c = (h, put (start_body s b) (start_overhead s) (bytes count_b
 
 -- what is answered and stored: the new count, or nothing where nothing is left
 unfoldable pub counted : Settings → ℕ → List ℕ → Option ℕ → Answer × List Store
-counted s h b none = (lastReference, [])
+counted s h b none = (last_reference_answer, [])
 counted s h b (some c) = (count c, count_store s h b c ∷ [])
 
 -- ---- insert, replace, remove and change of the count

@@ -11,7 +11,7 @@ use Rattle.definition.specs.FreeList.{push, free_from, free_list, members_of}
 use Rattle.definition.specs.Chains.{unless_refused, key_differs, head_fault, last_fault, later_parse, is_last, onward, parts_from, sized_body, rest_body, body_of, content_of, total_good, with_total, walk}
 use Rattle.definition.specs.Parts.{prefix, cut_rest, cut, pieces, sized_part, continuation_part, stored_total, head_part, free_slot, rest_stores, chain_stores, free_stores}
 use Rattle.definition.specs.Effect.{new_slots, left_over, free_left, free_after, filled_after, header_store, header_stores, effect}
-use Rattle.definition.specs.Answers.{Answer, refusal, at, accepted, count, lastReference, found, content, members}
+use Rattle.definition.specs.Answers.{Answer, refusal, at, accepted, count, last_reference_answer, found, content, members}
 use Rattle.definition.specs.Calls.{capacity, settings_test, buffer_test, header_test, key_test, uncounted_test, value_test, slot_test, free_list_test, room_test, unless, insert, replace, remove, lowered, new_count, count_store, counted, change}
 
 -- ---- the tables and calls of the figures
@@ -50,7 +50,7 @@ numbers (refusal n) = 0 ∷ n ∷ []
 numbers (at h) = 1 ∷ h ∷ []
 numbers accepted = 2 ∷ []
 numbers (count n) = 3 ∷ n ∷ []
-numbers lastReference = 4 ∷ []
+numbers last_reference_answer = 4 ∷ []
 numbers (found n m c v) = 5 ∷ n ∷ cond m 1 0 ∷ c ∷ v ∷ []
 numbers (content c) = 6 ∷ c
 numbers (members n) = 7 ∷ n ∷ []
@@ -133,7 +133,7 @@ figures =
     ∷ (answers again₁ (at 3) && answers again₂ (at 1) && answers again₃ (at 4))
     ∷ shown four (λ o. parts o 4 && shown (shortened o) (λ r. answers r accepted && holds r 0 (0x04 ∷ zeros 7)
     && holds r 16384 (0xff ∷ 0xff ∷ 0x03 ∷ zeros 7) && holds r 12288 (0xff ∷ 0xff ∷ zeros 8)))
-    ∷ answers (change entry64 (negsuc 4) 1 five) lastReference
+    ∷ answers (change entry64 (negsuc 4) 1 five) last_reference_answer
     ∷ answers (change entry64 (negsuc 3) 1 five) (count 1)
     ∷ answers (change entry64 (pos 0) 1 five) (count 5)
     ∷ (answers (change entry64 (pos 0) 1 top) (count 0xffff_fffe) && answers (change entry64 (pos 1) 1 top) (count 0xffff_ffff))

@@ -12,7 +12,7 @@ use Rattle.definition.specs.Tests.{refuse, first}
 use Rattle.definition.specs.Slots.{partial_key}
 use Rattle.definition.specs.Parts.{prefix, pieces}
 use Rattle.definition.specs.Effect.{new_slots, free_after, filled_after}
-use Rattle.definition.specs.Answers.{Answer, refusal, at, accepted, count, lastReference, found, content, members}
+use Rattle.definition.specs.Answers.{Answer, refusal, at, accepted, count, last_reference_answer, found, content, members}
 use Rattle.definition.specs.Calls.{key_test, checked_key_test, uncounted_test, value_test, room_test, output_test, unless, new_count, Writing, Insert, Replace, Remove, Change}
 
 pub record Chain : Type 0 where
@@ -93,7 +93,7 @@ unfoldable pub recount : ℕ → Chain → Chain
 recount n c = record { slots = c.slots; key = c.key; content = c.content; mark = c.mark; count = n }
 
 unfoldable pub ledger_counted : Ledger → ℕ → Chain → Option ℕ → Answer × Ledger
-ledger_counted L h c none = (lastReference, L)
+ledger_counted L h c none = (last_reference_answer, L)
 ledger_counted L h c (some n) = (count n, with_chain L h (some (recount n c)) L.free L.filled)
 
 unfoldable pub ledger_change : Ledger → ℕ → ℤ → Option Chain → Answer × Ledger

@@ -13,7 +13,7 @@ use mathlib.Core.Bool.{Bool, cond}
 use mathlib.Core.Option.{Option, none, some}
 use contract.Lifetimes.{Lfts}
 use Rattle.definition.specs.declared.Settings.{Settings}
-use Rattle.definition.specs.Answers.{Answer, refusal, at, accepted, count, lastReference, found, members}
+use Rattle.definition.specs.Answers.{Answer, refusal, at, accepted, count, last_reference_answer, found, members}
 use Rattle.definition.specs.Calls.{unless, answer_unless, counted, Insert, Replace, Remove, Change, insert, replace, remove, change, checked_key, read, look_fixed, find_fixed, free_count}
 use Rattle.definition.specs.Ledger.{Read, ReadFixed, FindFixed, FreeCount, Call, Write, Look, Outcome, wrote, told}
 use Rattle.definition.specs.Run.{run}
@@ -62,7 +62,7 @@ pub data Returned : Type 0 where
 abbrev pub said_by : Returned → Answer
 said_by (inserted r) = answer_unless r.number (at r.slot)
 said_by (number n) = answer_unless n accepted
-said_by (changed r) = answer_unless r.number (cond r.last_reference lastReference (count r.count))
+said_by (changed r) = answer_unless r.number (cond r.last_reference last_reference_answer (count r.count))
 said_by (copied r) = answer_unless r.number (found r.length r.mark r.count r.visits)
 said_by (part r) = answer_unless r.number (found r.length r.mark r.count r.visits)
 said_by (listed r) = answer_unless r.number (members r.count)

@@ -16,7 +16,7 @@ use Rattle.definition.specs.declared.Written.{Written}
 use Rattle.definition.specs.declared.Changed.{Changed}
 use Rattle.definition.specs.declared.Found.{Found}
 use Rattle.definition.specs.declared.FreeCount.{FreeCount as Counted}
-use Rattle.definition.specs.Answers.{Answer, content, insertedOf, written_of, changedOf, foundOf, freeCountOf}
+use Rattle.definition.specs.Answers.{Answer, content, inserted_of, written_of, changed_of, found_of, free_count_of}
 use Rattle.definition.specs.Calls.{Insert, Replace, Remove, Change, insert, replace, remove, change, checked_key}
 use Rattle.definition.specs.Ledger.{Read, ReadFixed, FindFixed, FreeCount, Call, Write, Look, Outcome, wrote, told}
 use Rattle.definition.specs.Run.{run}
@@ -75,14 +75,14 @@ start_of (Counting κ table r e) = table.now
 
 -- what the code left: its answer, the table's bytes, the output's
 abbrev pub outcome_of : {s : Settings} → Performed s → Outcome (List ℕ)
-outcome_of (Inserting κ table after key value mark r e) = wrote (insertedOf r, after.now)
+outcome_of (Inserting κ table after key value mark r e) = wrote (inserted_of r, after.now)
 outcome_of (Replacing κ table after h key value mark r e) = wrote (written_of r, after.now)
 outcome_of (Removing κ table after h r e) = wrote (written_of r, after.now)
-outcome_of (Changing κ table after h step r e) = wrote (changedOf r, after.now)
-outcome_of (Reading κ table h checked key output after r e) = told table.now (foundOf r, after.now)
+outcome_of (Changing κ table after h step r e) = wrote (changed_of r, after.now)
+outcome_of (Reading κ table h checked key output after r e) = told table.now (found_of r, after.now)
 outcome_of (ReadingFixed κ table h checked key r e) = told table.now (content r.now, [])
-outcome_of (FindingFixed κ table h checked key r e) = told table.now (foundOf r, [])
-outcome_of (Counting κ table r e) = told table.now (freeCountOf r, [])
+outcome_of (FindingFixed κ table h checked key r e) = told table.now (found_of r, [])
+outcome_of (Counting κ table r e) = told table.now (free_count_of r, [])
 
 -- the contracts carry the definition to the code
 pub performed_is : {s : Settings} (p : Performed s) → outcome_of p ≡ run s (call_of p) (start_of p)

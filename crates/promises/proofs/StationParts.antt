@@ -13,7 +13,7 @@ use lib.ListN.{length, take, drop}
 use contract.Lifetimes.{Lfts}
 use denote.Ref.{Bor}
 use Rattle.definition.specs.declared.Settings.{Settings}
-use Rattle.definition.specs.Answers.{Answer, refusal, at, accepted, count, lastReference, found, content, members}
+use Rattle.definition.specs.Answers.{Answer, refusal, at, accepted, count, last_reference_answer, found, content, members}
 use Rattle.definition.specs.Settings.{link_bytes}
 use Rattle.definition.specs.Calls.{capacity, unless, checked_key, content_start, look_fixed, read_fixed, find_fixed}
 use Rattle.definition.specs.Sound.{Sound}
@@ -32,7 +32,7 @@ OfFixed (refusal n) = 0 < n
 OfFixed (at h) = ⊥
 OfFixed accepted = ⊥
 OfFixed (count n) = ⊥
-OfFixed lastReference = ⊥
+OfFixed last_reference_answer = ⊥
 OfFixed (found n m c v) = Unit {0}
 OfFixed (content b) = ⊥
 OfFixed (members n) = ⊥
@@ -56,7 +56,7 @@ module _ (s : Settings) (t : List ℕ) (h : ℕ) (key : Option (List ℕ)) where
   placed (at i) e k z = absurd k
   placed accepted e k z = absurd k
   placed (count n) e k z = absurd k
-  placed lastReference e k z = absurd k
+  placed last_reference_answer e k z = absurd k
   placed (found len mark c v) e k z = let p = fixed_part s t h key len mark c v e in (p.inside, p.is)
   placed (content b) e k z = absurd k
   placed (members n) e k z = absurd k

@@ -17,7 +17,7 @@ use Rattle.definition.specs.declared.Changed.{Changed}
 use Rattle.definition.specs.declared.Found.{Found}
 use Rattle.definition.specs.declared.FreeCount.{FreeCount}
 use Rattle.definition.specs.Tests.{number_of}
-use Rattle.definition.specs.Answers.{Answer, refusal, at, accepted, count, lastReference, found, content, members, insertedOf, written_of, changedOf, foundOf, freeCountOf}
+use Rattle.definition.specs.Answers.{Answer, refusal, at, accepted, count, last_reference_answer, found, content, members, inserted_of, written_of, changed_of, found_of, free_count_of}
 use Rattle.definition.specs.Calls.{checked_key, part_start, read_fixed}
 use Rattle.definition.specs.Run.{run}
 use Rattle.table.proofs.read_fixed.Reads as read-fixed-code
@@ -82,16 +82,16 @@ by_kind refused number tells other (refusal n) = refused n
 by_kind refused number tells other (at n) = number n
 by_kind refused number tells other accepted = other
 by_kind refused number tells other (count n) = number n
-by_kind refused number tells other lastReference = other
+by_kind refused number tells other last_reference_answer = other
 by_kind refused number tells other (found n m c v) = tells n m c v
 by_kind refused number tells other (content b) = other
 by_kind refused number tells other (members n) = number n
 
-pub inserted_one : (a b : Inserted) → insertedOf a ≡ insertedOf b → a ≡ b
+pub inserted_one : (a b : Inserted) → inserted_of a ≡ inserted_of b → a ≡ b
 unfolding by_kind
-inserted_one = one insertedOf (by_kind (λ n. Inserted.Refused (refusal_at n)) (λ h. Inserted.At h) (λ n m c v. Inserted.At 0) (Inserted.At 0)) back
+inserted_one = one inserted_of (by_kind (λ n. Inserted.Refused (refusal_at n)) (λ h. Inserted.At h) (λ n m c v. Inserted.At 0) (Inserted.At 0)) back
   where
-    back : (a : Inserted) → by_kind (λ n. Inserted.Refused (refusal_at n)) (λ h. Inserted.At h) (λ n m c v. Inserted.At 0) (Inserted.At 0) (insertedOf a) ≡ a
+    back : (a : Inserted) → by_kind (λ n. Inserted.Refused (refusal_at n)) (λ h. Inserted.At h) (λ n m c v. Inserted.At 0) (Inserted.At 0) (inserted_of a) ≡ a
     back (Inserted.At h) = refl
     back (Inserted.Refused r) = ap Inserted.Refused (refusal_back r)
 
@@ -103,27 +103,27 @@ written_one = one written_of (by_kind (λ n. Written.Refused (refusal_at n)) (λ
     back Written.Accepted = refl
     back (Written.Refused r) = ap Written.Refused (refusal_back r)
 
-pub changed_one : (a b : Changed) → changedOf a ≡ changedOf b → a ≡ b
+pub changed_one : (a b : Changed) → changed_of a ≡ changed_of b → a ≡ b
 unfolding by_kind
-changed_one = one changedOf (by_kind (λ n. Changed.Refused (refusal_at n)) (λ n. Changed.Count n) (λ n m c v. Changed.LastReference) Changed.LastReference) back
+changed_one = one changed_of (by_kind (λ n. Changed.Refused (refusal_at n)) (λ n. Changed.Count n) (λ n m c v. Changed.LastReference) Changed.LastReference) back
   where
-    back : (a : Changed) → by_kind (λ n. Changed.Refused (refusal_at n)) (λ n. Changed.Count n) (λ n m c v. Changed.LastReference) Changed.LastReference (changedOf a) ≡ a
+    back : (a : Changed) → by_kind (λ n. Changed.Refused (refusal_at n)) (λ n. Changed.Count n) (λ n m c v. Changed.LastReference) Changed.LastReference (changed_of a) ≡ a
     back (Changed.Count n) = refl
     back Changed.LastReference = refl
     back (Changed.Refused r) = ap Changed.Refused (refusal_back r)
 
-pub found_one : (a b : Found) → foundOf a ≡ foundOf b → a ≡ b
+pub found_one : (a b : Found) → found_of a ≡ found_of b → a ≡ b
 unfolding by_kind
-found_one = one foundOf (by_kind (λ n. Found.Refused (refusal_at n)) (λ n. Found.Refused Output) (λ n m c v. Found.Content (record { len = n; mark = m; count = c; visits = v })) (Found.Refused Output)) back
+found_one = one found_of (by_kind (λ n. Found.Refused (refusal_at n)) (λ n. Found.Refused Output) (λ n m c v. Found.Content (record { len = n; mark = m; count = c; visits = v })) (Found.Refused Output)) back
   where
-    back : (a : Found) → by_kind (λ n. Found.Refused (refusal_at n)) (λ n. Found.Refused Output) (λ n m c v. Found.Content (record { len = n; mark = m; count = c; visits = v })) (Found.Refused Output) (foundOf a) ≡ a
+    back : (a : Found) → by_kind (λ n. Found.Refused (refusal_at n)) (λ n. Found.Refused Output) (λ n m c v. Found.Content (record { len = n; mark = m; count = c; visits = v })) (Found.Refused Output) (found_of a) ≡ a
     back (Found.Content r) = refl
     back (Found.Refused r) = ap Found.Refused (refusal_back r)
 
-pub free_count_one : (a b : FreeCount) → freeCountOf a ≡ freeCountOf b → a ≡ b
+pub free_count_one : (a b : FreeCount) → free_count_of a ≡ free_count_of b → a ≡ b
 unfolding by_kind
-free_count_one = one freeCountOf (by_kind (λ n. FreeCount.Refused (refusal_at n)) (λ n. FreeCount.Members n) (λ n m c v. FreeCount.Members 0) (FreeCount.Members 0)) back
+free_count_one = one free_count_of (by_kind (λ n. FreeCount.Refused (refusal_at n)) (λ n. FreeCount.Members n) (λ n m c v. FreeCount.Members 0) (FreeCount.Members 0)) back
   where
-    back : (a : FreeCount) → by_kind (λ n. FreeCount.Refused (refusal_at n)) (λ n. FreeCount.Members n) (λ n m c v. FreeCount.Members 0) (FreeCount.Members 0) (freeCountOf a) ≡ a
+    back : (a : FreeCount) → by_kind (λ n. FreeCount.Refused (refusal_at n)) (λ n. FreeCount.Members n) (λ n m c v. FreeCount.Members 0) (FreeCount.Members 0) (free_count_of a) ≡ a
     back (FreeCount.Members n) = refl
     back (FreeCount.Refused r) = ap FreeCount.Refused (refusal_back r)

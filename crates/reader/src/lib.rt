@@ -6,7 +6,7 @@ ghost use Rattle.definition.specs.Tests.{number_of};
 ghost use Rattle.definition.specs.Settings.{word_bytes, link_overhead, bad_settings, prefix_len};
 ghost use Rattle.definition.specs.Slots.{marked, compressed_mark, is_free, is_continuation, is_head, size_of, total_of, head_link, link_of, starts, count_of, mark_of};
 ghost use Rattle.definition.specs.Chains.{head_parse, later_parse};
-ghost use Rattle.definition.specs.Answers.{parseOf};
+ghost use Rattle.definition.specs.Answers.{parse_of};
 ghost use Rattle.definition.specs.Calls.{checked_key_test, checked_key};
 
 use definition::{Parsed, PartKind, Refusal, Settings};
@@ -146,7 +146,7 @@ fn size_above_slot(slot: &[u8], s: Settings) -> bool
 // `mismatch` is the refusal of a checked key that differs.
 pub fn parse_head(slot: &[u8], s: Settings, checked: bool, key: &[u8], mismatch: Refusal) -> Parsed
     requires { (bad_settings s ≡ false) × (length slot.now ≡ s.size) × (checked_key_test s (checked_key checked key.now) ≡ 0) }
-    ensures { parseOf result ≡ head_parse s (checked_key checked key.now) (number_of mismatch) slot.now }
+    ensures { parse_of result ≡ head_parse s (checked_key checked key.now) (number_of mismatch) slot.now }
 {
     if !starts_chain(slot, s) {
         return Parsed::Refused(Refusal::Absent);
@@ -173,7 +173,7 @@ pub fn parse_head(slot: &[u8], s: Settings, checked: bool, key: &[u8], mismatch:
 // A later part of a chain: its kind, with its link, and the bytes that it holds.
 pub fn read_next_part(slot: &[u8], s: Settings) -> Parsed
     requires { (bad_settings s ≡ false) × (length slot.now ≡ s.size) }
-    ensures { (mark after_head : Bool) → parseOf result ≡ later_parse s mark after_head slot.now }
+    ensures { (mark after_head : Bool) → parse_of result ≡ later_parse s mark after_head slot.now }
 {
     if is_free(slot) {
         return Parsed::Refused(Refusal::Chain);

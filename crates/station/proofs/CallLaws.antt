@@ -10,7 +10,7 @@ use Rattle.definition.specs.declared.Record.{Record}
 use Rattle.definition.specs.declared.Found.{Found}
 use Rattle.definition.specs.Tests.{number_of}
 use Rattle.definition.specs.Settings.{prefix_len}
-use Rattle.definition.specs.Answers.{Answer, refusal, foundOf}
+use Rattle.definition.specs.Answers.{Answer, refusal, found_of}
 use Rattle.laws.proofs.Tests.{number_some}
 use Rattle.station.specs.declared.answers.PyltarkaPart.{PyltarkaPart}
 use Rattle.definition.specs.Calls.{content_start}
@@ -32,6 +32,6 @@ part_refused s h n r e =
     ap (λ (m : ℕ). part_with 0 0 0 m 0 false) e
     ∙ ap (λ (b : Bool). part_with (cond b (content_start s h) 0) 0 0 (number_of r) 0 false) (sym (ne_eqb (number_of r) 0 (λ z. omega (arith, number_some r))))
 
-pub part_told : (s : Settings) (h p : ℕ) (x : Record) → p ≡ prefix_len s → part_with (h * s.size + 2 + p) x.len x.visits 0 x.count x.mark ≡ part_in s h (foundOf (Found.Content x))
+pub part_told : (s : Settings) (h p : ℕ) (x : Record) → p ≡ prefix_len s → part_with (h * s.size + 2 + p) x.len x.visits 0 x.count x.mark ≡ part_in s h (found_of (Found.Content x))
 unfolding content_start
 part_told s h p x e = ap (λ (q : ℕ). part_with (h * s.size + 2 + q) x.len x.visits 0 x.count x.mark) e

@@ -2,7 +2,7 @@
 -- `number` is 0 or the refusal, and what an answer does not tell is zero: on a refusal all but the number.
 use Rattle.std.specs.Prelude.{ℕ, Bool, false, true, cond, eqb}
 use Rattle.definition.specs.declared.Settings.{Settings}
-use Rattle.definition.specs.Answers.{Answer, refusal, at, accepted, count, lastReference, found, content, members}
+use Rattle.definition.specs.Answers.{Answer, refusal, at, accepted, count, last_reference_answer, found, content, members}
 use Rattle.definition.specs.Calls.{content_start}
 use Rattle.station.specs.declared.answers.PyltarkaSettings.{PyltarkaSettings}
 use Rattle.station.specs.declared.answers.PyltarkaInserted.{PyltarkaInserted}
@@ -35,7 +35,7 @@ told (refusal n) = tells n 0 0 false 0 false 0
 told (at h) = tells 0 h 0 false 0 false 0
 told accepted = tells 0 0 0 false 0 false 0
 told (count c) = tells 0 0 c false 0 false 0
-told lastReference = tells 0 0 0 true 0 false 0
+told last_reference_answer = tells 0 0 0 true 0 false 0
 told (found k m c v) = tells 0 0 c false k m v
 told (content l) = tells 0 0 0 false 0 false 0
 told (members n) = tells 0 0 n false 0 false 0

@@ -1,7 +1,7 @@
 // What crosses to C and back, by value: the settings, and what each call answers. C's names are these in lower case, with `_`:
 // pyltarka_settings and so on, in include/pyltarka.h, member for member.
 ghost use Rattle.std.specs.Prelude.{◌≡◌};
-ghost use Rattle.definition.specs.Answers.{insertedOf, written_of, changedOf, foundOf, freeCountOf};
+ghost use Rattle.definition.specs.Answers.{inserted_of, written_of, changed_of, found_of, free_count_of};
 ghost use Rattle.station.specs.Forms.{settings_of, number_in, inserted_in, changed_in, record_in, counted_in};
 
 use definition::{Changed, Found, FreeCount, Inserted, Settings, Written};
@@ -78,7 +78,7 @@ pub fn settings_of(s: PyltarkaSettings) -> Settings
 
 // What insert answers, for C.
 pub fn inserted_in(a: Inserted) -> PyltarkaInserted
-    ensures { result ≡ inserted_in (insertedOf a) }
+    ensures { result ≡ inserted_in (inserted_of a) }
 {
     match a {
         Inserted::Refused(r) => PyltarkaInserted {
@@ -101,7 +101,7 @@ pub fn number_in(a: Written) -> u32
 
 // What a change of the count answers, for C.
 pub fn changed_in(a: Changed) -> PyltarkaChanged
-    ensures { result ≡ changed_in (changedOf a) }
+    ensures { result ≡ changed_in (changed_of a) }
 {
     match a {
         Changed::Refused(r) => PyltarkaChanged {
@@ -124,7 +124,7 @@ pub fn changed_in(a: Changed) -> PyltarkaChanged
 
 // What the copying read answers, for C.
 pub fn record_in(a: Found) -> PyltarkaRecord
-    ensures { result ≡ record_in (foundOf a) }
+    ensures { result ≡ record_in (found_of a) }
 {
     match a {
         Found::Refused(r) => PyltarkaRecord {
@@ -146,7 +146,7 @@ pub fn record_in(a: Found) -> PyltarkaRecord
 
 // What the free count answers, for C.
 pub fn counted_in(a: FreeCount) -> PyltarkaCounted
-    ensures { result ≡ counted_in (freeCountOf a) }
+    ensures { result ≡ counted_in (free_count_of a) }
 {
     match a {
         FreeCount::Refused(r) => PyltarkaCounted {

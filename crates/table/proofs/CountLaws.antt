@@ -18,7 +18,7 @@ use Rattle.definition.specs.Settings.{start_overhead, bad_settings}
 use Rattle.definition.specs.Slots.{view, store}
 use Rattle.definition.specs.FreeList.{free_from, free_list}
 use Rattle.definition.specs.Chains.{head_fault}
-use Rattle.definition.specs.Answers.{Answer, refusal, count, lastReference, members, freeCountOf}
+use Rattle.definition.specs.Answers.{Answer, refusal, count, last_reference_answer, members, free_count_of}
 use Rattle.definition.specs.Calls.{uncounted_test, slot_test, new_count, counted, Change, decision, change, free_count}
 use Rattle.laws.proofs.Tests.{number_some, refuse_yes, refuse_no, first_skip, first_pass, first_past, first_one, first_refuses, first_refuse_all}
 use Rattle.laws.proofs.Views.{within}
@@ -80,7 +80,7 @@ module _ (s : Settings) (z : ℤ) (h : ℕ) (t : List ℕ) where
         unfolding change
         changed n q = ap stepped (sym q ∙ ap (λ (i : ℕ). new_count i z) e.1) ∙ accepts _ t _ (rest ∙ e.0)
 
-        pub change_last : Stepped.Last ≡ stepped_to (new_count c z) → (lastReference, t) ≡ change s z h t
+        pub change_last : Stepped.Last ≡ stepped_to (new_count c z) → (last_reference_answer, t) ≡ change s z h t
         unfolding counted store
         change_last q = changed none (stepped_last _ q)
 
@@ -99,12 +99,12 @@ module _ (s : Settings) (t : List ℕ) where
   free_closed r e = answer_refuses (number_of r) _ _ (first_refuse_all (number_of r) _ _ e (number_some r)) (number_some r)
 
   module _ (k : Header) (o : OpenedIs (Opened.Table k) s t) where
-    list_decides : (r : FreeCount) → FreeIs r (free_list (view s.size t)) → freeCountOf r ≡ free_count s t
+    list_decides : (r : FreeCount) → FreeIs r (free_list (view s.size t)) → free_count_of r ≡ free_count s t
     unfolding free_count
     list_decides (FreeCount.Members n) e = ap members e.1 ∙ answer_accepts _ _ (first_past _ _ o.0 ∙ first_one _ ∙ e.0)
     list_decides (FreeCount.Refused r) e = answer_refuses (number_of r) _ _ (first_past _ _ o.0 ∙ first_one _ ∙ e) (number_some r)
 
     -- the walk from the header on decides
-    pub free_decides : (r : FreeCount) → FreeIs r (free_from (view s.size t) k.filled (k.filled - 1) k.removed) → freeCountOf r ≡ free_count s t
+    pub free_decides : (r : FreeCount) → FreeIs r (free_from (view s.size t) k.filled (k.filled - 1) k.removed) → free_count_of r ≡ free_count s t
     unfolding free_list
     free_decides r e = list_decides r (subst (λ (x : Header). FreeIs r (free_from (view s.size t) x.filled (x.filled - 1) x.removed)) o.1 e)

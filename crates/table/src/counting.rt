@@ -1,6 +1,6 @@
 // Counts: the count of a record changed by a signed step, and the length of the free list.
 ghost use Rattle.std.specs.Prelude.{◌≡◌};
-ghost use Rattle.definition.specs.Answers.{changedOf, freeCountOf};
+ghost use Rattle.definition.specs.Answers.{changed_of, free_count_of};
 ghost use Rattle.definition.specs.Calls.{change, free_count};
 
 use checks::{Opened, check_table};
@@ -10,7 +10,7 @@ use walks::free_list::check_free_refs;
 
 // Changes the count of the record in a slot by a signed step; answers the stored count, or that this was the last reference.
 pub fn change_count(table: &mut [u8], s: Settings, slot: u64, step: i32) -> Changed
-    ensures { (changedOf result, table.new) ≡ change s step slot table.old }
+    ensures { (changed_of result, table.new) ≡ change s step slot table.old }
 {
     match check_table(table, s) {
         Opened::Refused(r) => Changed::Refused(r),
@@ -34,7 +34,7 @@ pub fn change_count(table: &mut [u8], s: Settings, slot: u64, step: i32) -> Chan
 
 // The members of the free list.
 pub fn free_count(table: &[u8], s: Settings) -> FreeCount
-    ensures { freeCountOf result ≡ free_count s table.now }
+    ensures { free_count_of result ≡ free_count s table.now }
 {
     match check_table(table, s) {
         Opened::Refused(r) => FreeCount::Refused(r),

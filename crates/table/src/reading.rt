@@ -2,7 +2,7 @@
 ghost use Rattle.std.specs.Prelude.{◌≡◌, false, ◌+◌, ◌*◌, ◌≤◌, length};
 ghost use Rattle.definition.specs.Settings.{bad_settings};
 ghost use Rattle.definition.specs.Slots.{view, mark_of, count_of};
-ghost use Rattle.definition.specs.Answers.{foundOf};
+ghost use Rattle.definition.specs.Answers.{found_of};
 ghost use Rattle.definition.specs.Calls.{checked_key, read, part_start, read_fixed, find_fixed};
 ghost use Rattle.table.specs.Places.{LiesAt};
 
@@ -37,7 +37,7 @@ pub fn read(
     key: &[u8],
     output: &mut [u8],
 ) -> Found
-    ensures { (foundOf result, output.new) ≡ read s (checked_key checked key.now) slot table.now output.old }
+    ensures { (found_of result, output.new) ≡ read s (checked_key checked key.now) slot table.now output.old }
 {
     match check_record(table, s, slot, checked, key) {
         Walked::Refused(r) => Found::Refused(r),
@@ -54,7 +54,7 @@ pub fn read(
 
 // The fixed read's companion: the refusal, or the content's length, mark, count and visits. On a multipart table it gives 1.
 pub fn find_fixed(table: &[u8], s: Settings, slot: u64, checked: bool, key: &[u8]) -> Found
-    ensures { foundOf result ≡ find_fixed s (checked_key checked key.now) slot table.now }
+    ensures { found_of result ≡ find_fixed s (checked_key checked key.now) slot table.now }
 {
     if s.multipart {
         return Found::Refused(Refusal::Settings);

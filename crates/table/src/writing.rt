@@ -1,6 +1,6 @@
 // Insert, replace and remove: each is its checks, which write nothing, and then its effect, which refuses nothing.
 ghost use Rattle.std.specs.Prelude.{◌≡◌};
-ghost use Rattle.definition.specs.Answers.{insertedOf, written_of};
+ghost use Rattle.definition.specs.Answers.{inserted_of, written_of};
 ghost use Rattle.definition.specs.Calls.{insert, replace, remove};
 
 use checks::writing::{Fitted, check_insert, check_remove, check_replace};
@@ -9,7 +9,7 @@ use writes::records::{free_record, write_record};
 
 // Stores a record under a key with its content and compressed mark; answers the slot of its head.
 pub fn insert(table: &mut [u8], s: Settings, key: &[u8], content: &[u8], mark: bool) -> Inserted
-    ensures { (insertedOf result, table.new) ≡ insert s key.now content.now mark table.old }
+    ensures { (inserted_of result, table.new) ≡ insert s key.now content.now mark table.old }
 {
     match check_insert(table, s, key, content) {
         Written::Refused(r) => Inserted::Refused(r),

@@ -7,7 +7,7 @@ use lib.ListN.{length}
 use borrow.Author.Rules.{rules}
 use Rattle.definition.specs.Slots.{view, filled, count_of}
 use Rattle.definition.specs.Chains.{head_parse}
-use Rattle.definition.specs.Answers.{parseOf}
+use Rattle.definition.specs.Answers.{parse_of}
 use Rattle.definition.specs.Calls.{checked_key_test}
 use Rattle.laws.proofs.Views.{within, part_view, lent_length}
 use Rattle.laws.proofs.Sizes.{sizes}
@@ -28,7 +28,7 @@ below : (c : tie.Else2) → c.before.before.before.args.at < filled (view c.befo
 below c = subst (λ (n : ℕ). c.before.before.before.args.at < n) c.before.before.before.requires.2 c.if2.false
 
 -- what the head's parse found
-parsed : (c : tie.After-parse-head) → parseOf c.parse-head.result ≡ head_parse c.before.before.before.before.before.before.before.before.args.s none 8 (slot c.before.before.before.before.before.before.before.before)
+parsed : (c : tie.After-parse-head) → parse_of c.parse-head.result ≡ head_parse c.before.before.before.before.before.before.before.before.args.s none 8 (slot c.before.before.before.before.before.before.before.before)
 parsed c =
     let a = c.before.before.before.before.before.before.before.before.args in
     c.parse-head.ensures ∙ ap (head_parse a.s none 8) (part_view a.s.size a.at a.table.now)
@@ -85,12 +85,12 @@ read-count-requires c κs =
     omega (arith, lent_length a.s.size a.at a.table.now (inside c.before.before.before.before.before.before.before.before))
 
 returns-3 : tie.Need-returns-3
-returns-3 c = head_refused _ _ _ c.before.before.before.before.before.before.before.before.before.if1.false (below c.before.before.before.before.before.before.before.before) c.before.r.given.0.0 (sym (ap parseOf c.before.r.given.1) ∙ parsed c.before.before.before)
+returns-3 c = head_refused _ _ _ c.before.before.before.before.before.before.before.before.before.if1.false (below c.before.before.before.before.before.before.before.before) c.before.r.given.0.0 (sym (ap parse_of c.before.r.given.1) ∙ parsed c.before.before.before)
 
 returns-4 : tie.Need-returns-4
 returns-4 c =
     let a = c.before.before.before.before.before.before.before.before.before.before.before.before.args in
-    head_counted _ _ _ c.before.before.before.before.before.before.before.before.before.before.if1.false (below c.before.before.before.before.before.before.before.before.before) _ _ c.read_count.result (sym (ap parseOf c.before.before.enum_told.given.1) ∙ parsed c.before.before.before.before)
+    head_counted _ _ _ c.before.before.before.before.before.before.before.before.before.before.if1.false (below c.before.before.before.before.before.before.before.before.before) _ _ c.read_count.result (sym (ap parse_of c.before.before.enum_told.given.1) ∙ parsed c.before.before.before.before)
     (c.read_count.ensures ∙ ap (count_of a.s) (part_view a.s.size a.at a.table.now))
 
 pub check-count-spec : {M : Type 1} → statement M

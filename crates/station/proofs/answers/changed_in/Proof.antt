@@ -2,7 +2,7 @@ use Prim.Native.Nat.{ℕ}
 use mathlib.Core.Path.{sym, ap, ◌∙◌}
 use borrow.Author.Rules.{rules}
 use Rattle.station.specs.Forms.{changed_in}
-use Rattle.definition.specs.Answers.{refusal, changedOf}
+use Rattle.definition.specs.Answers.{refusal, changed_of}
 use Rattle.definition.specs.declared.Changed.{Changed}
 use Rattle.station.proofs.answers.changed_in.Statement.{statement}
 use Rattle.station.proofs.answers.changed_in.Tie as tie
@@ -21,15 +21,15 @@ enum-known-a-2 c = search rules
 
 returns : tie.Need-returns
 returns c =
-    ap (λ (n : ℕ). changed_in (refusal n)) c.number.ensures ∙ ap (λ (a : Changed). changed_in (changedOf a)) (sym c.before.before.a.given.1)
+    ap (λ (n : ℕ). changed_in (refusal n)) c.number.ensures ∙ ap (λ (a : Changed). changed_in (changed_of a)) (sym c.before.before.a.given.1)
 
 returns-2 : tie.Need-returns-2
 returns-2 c =
-    ap (λ (a : Changed). changed_in (changedOf a)) (sym c.enum_told.given.1)
+    ap (λ (a : Changed). changed_in (changed_of a)) (sym c.enum_told.given.1)
 
 returns-3 : tie.Need-returns-3
 returns-3 c =
-    ap (λ (a : Changed). changed_in (changedOf a)) (sym c.before.a2.given.1)
+    ap (λ (a : Changed). changed_in (changed_of a)) (sym c.before.a2.given.1)
 
 pub changed-in-spec : {M : Type 1} → statement M
 changed-in-spec =

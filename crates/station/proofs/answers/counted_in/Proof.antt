@@ -2,7 +2,7 @@ use Prim.Native.Nat.{ℕ}
 use mathlib.Core.Path.{sym, ap, ◌∙◌}
 use borrow.Author.Rules.{rules}
 use Rattle.station.specs.Forms.{counted_in}
-use Rattle.definition.specs.Answers.{refusal, freeCountOf}
+use Rattle.definition.specs.Answers.{refusal, free_count_of}
 use Rattle.definition.specs.declared.FreeCount.{FreeCount}
 use Rattle.station.proofs.answers.counted_in.Statement.{statement}
 use Rattle.station.proofs.answers.counted_in.Tie as tie
@@ -18,11 +18,11 @@ enum-known-a-2 c = search rules
 
 returns : tie.Need-returns
 returns c =
-    ap (λ (n : ℕ). counted_in (refusal n)) c.number.ensures ∙ ap (λ (a : FreeCount). counted_in (freeCountOf a)) (sym c.before.before.a.given.1)
+    ap (λ (n : ℕ). counted_in (refusal n)) c.number.ensures ∙ ap (λ (a : FreeCount). counted_in (free_count_of a)) (sym c.before.before.a.given.1)
 
 returns-2 : tie.Need-returns-2
 returns-2 c =
-    ap (λ (a : FreeCount). counted_in (freeCountOf a)) (sym c.before.a2.given.1)
+    ap (λ (a : FreeCount). counted_in (free_count_of a)) (sym c.before.a2.given.1)
 
 pub counted-in-spec : {M : Type 1} → statement M
 counted-in-spec =

@@ -2,7 +2,7 @@ use Prim.Native.Nat.{ℕ}
 use mathlib.Core.Path.{sym, ap, ◌∙◌}
 use borrow.Author.Rules.{rules}
 use Rattle.station.specs.Forms.{record_in}
-use Rattle.definition.specs.Answers.{refusal, foundOf}
+use Rattle.definition.specs.Answers.{refusal, found_of}
 use Rattle.definition.specs.declared.Found.{Found}
 use Rattle.station.proofs.answers.record_in.Statement.{statement}
 use Rattle.station.proofs.answers.record_in.Tie as tie
@@ -18,11 +18,11 @@ enum-known-a-2 c = search rules
 
 returns : tie.Need-returns
 returns c =
-    ap (λ (n : ℕ). record_in (refusal n)) c.number.ensures ∙ ap (λ (a : Found). record_in (foundOf a)) (sym c.before.before.a.given.1)
+    ap (λ (n : ℕ). record_in (refusal n)) c.number.ensures ∙ ap (λ (a : Found). record_in (found_of a)) (sym c.before.before.a.given.1)
 
 returns-2 : tie.Need-returns-2
 returns-2 c =
-    ap (λ (a : Found). record_in (foundOf a)) (sym c.before.a2.given.1)
+    ap (λ (a : Found). record_in (found_of a)) (sym c.before.a2.given.1)
 
 pub record-in-spec : {M : Type 1} → statement M
 record-in-spec = tie.close (tie.spec enum-known-a number-requires enum-known-a-2 returns returns-2)

@@ -2,7 +2,7 @@ use Prim.Native.Nat.{ℕ, ◌-◌}
 use native.Mathlib.Omega.{arith}
 use mathlib.Core.Path.{ap, ◌∙◌, subst}
 use borrow.Author.Rules.{rules}
-use Rattle.definition.specs.Answers.{foundOf}
+use Rattle.definition.specs.Answers.{found_of}
 use Rattle.definition.specs.declared.Record.{Record}
 use Rattle.definition.specs.declared.Found.{Found}
 use Rattle.table.proofs.ReadLaws.{Readable, readable, fixed_multi, fixed_refused, fixed_found}
@@ -51,7 +51,7 @@ returns-2 c =
 returns-3 : tie.Need-returns-3
 returns-3 c =
     let A = c.before.before.before.before.before.before.before.before.before.before.args in
-    ap (λ (r : Record). foundOf (Found.Content r)) c.record-at.ensures ∙ fixed_found A.s _ _ _ c.before.before.before.before.before.before.before.if1.false c.before.before.before.before.x.given.0.0 (met c.before.before.before.before) _ (ap (λ (n : ℕ). c.before.before.before.before.x.given.0.0.bytes - n) c.before.before.prefix_len.ensures)
+    ap (λ (r : Record). found_of (Found.Content r)) c.record-at.ensures ∙ fixed_found A.s _ _ _ c.before.before.before.before.before.before.before.if1.false c.before.before.before.before.x.given.0.0 (met c.before.before.before.before) _ (ap (λ (n : ℕ). c.before.before.before.before.x.given.0.0.bytes - n) c.before.before.prefix_len.ensures)
 
 pub find-fixed-spec : {M : Type 1} → statement M
 find-fixed-spec =

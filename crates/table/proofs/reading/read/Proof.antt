@@ -7,7 +7,7 @@ use Rattle.checks.specs.Stages.{RecordIs}
 use Rattle.walks.specs.declared.Walked.{Walked}
 use Rattle.definition.specs.declared.Record.{Record}
 use Rattle.definition.specs.declared.Found.{Found}
-use Rattle.definition.specs.Answers.{foundOf}
+use Rattle.definition.specs.Answers.{found_of}
 use Rattle.definition.specs.Calls.{checked_key}
 use Rattle.table.proofs.reading.read.Statement.{statement}
 use Rattle.table.proofs.reading.read.Tie as tie
@@ -58,7 +58,7 @@ same_length c =
 
 returns-3 : tie.Need-returns-3
 returns-3 c =
-    ap (λ (r : Record). (foundOf (Found.Content r), c.before.before.before.copy-content.new.1.1.1.1.1.0)) c.record-at.ensures
+    ap (λ (r : Record). (found_of (Found.Content r), c.before.before.before.copy-content.new.1.1.1.1.1.0)) c.record-at.ensures
     ∙ read_done _ _ _ _ _ c.before.before.before.before.before.before.before.before.before.x.given.0.0 (met c.before.before.before.before.before.before.before.before.before) _ (ap (λ (n : ℕ). c.before.before.before.before.before.before.before.before.before.x.given.0.0.bytes - n) c.before.before.before.before.before.before.before.prefix_len.ensures) c.before.before.before.before.before.if1.false _ c.before.before.before.copy-content.ensures
 
 pub read_spec : {M : Type 1} → statement M

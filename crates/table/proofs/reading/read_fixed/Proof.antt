@@ -2,7 +2,7 @@ use native.Mathlib.Omega.{arith}
 use mathlib.Core.Path.{refl, sym, ap, ◌∙◌}
 use borrow.Author.Rules.{rules}
 use Rattle.table.proofs.ReadLaws.{PartAt, fixed_empty, fixed_part, empty_start, part_start_lem, part_handed}
-use Rattle.definition.specs.Answers.{foundOf}
+use Rattle.definition.specs.Answers.{found_of}
 use Rattle.definition.specs.Calls.{checked_key}
 use Rattle.table.proofs.reading.read_fixed.Statement.{statement}
 use Rattle.table.proofs.reading.read_fixed.Tie as tie
@@ -10,7 +10,7 @@ use Rattle.table.proofs.reading.read_fixed.Tie as tie
 -- where the content lies
 part : (c : tie.After-told)
     → PartAt c.before.before.before.before.before.args.s c.before.before.before.before.before.args.table.now c.before.before.before.before.before.args.slot (checked_key c.before.before.before.before.before.args.checked c.before.before.before.before.before.args.key.now) c.told.given.0.0.len
-part c = fixed_part _ _ _ _ _ _ _ _ (sym (ap foundOf c.told.given.1) ∙ c.before.before.find-fixed.ensures)
+part c = fixed_part _ _ _ _ _ _ _ _ (sym (ap found_of c.told.given.1) ∙ c.before.before.find-fixed.ensures)
 
 find-fixed-requires : tie.Need-find-fixed-requires
 find-fixed-requires c κs = search rules
@@ -61,12 +61,12 @@ part-result-end-2 c =
 
 returns : tie.Need-returns
 returns c =
-    let q = sym (ap foundOf c.before.enum_told.given.1) ∙ c.before.before.before.find-fixed.ensures in
+    let q = sym (ap found_of c.before.enum_told.given.1) ∙ c.before.before.before.find-fixed.ensures in
     (fixed_empty _ _ _ _ c.before.enum_told.given.0.0 q, (refl, omega (arith, empty_start _ _ _ _ c.before.enum_told.given.0.0 q)))
 
 returns-2 : tie.Need-returns-2
 returns-2 c =
-    let q = sym (ap foundOf c.before.before.before.before.told.given.1) ∙ c.before.before.before.before.before.before.find-fixed.ensures in
+    let q = sym (ap found_of c.before.before.before.before.told.given.1) ∙ c.before.before.before.before.before.before.find-fixed.ensures in
     (part_handed _ _ _ _ _ _ (part c.before.before.before.before) c.before.prefix_len.ensures, (refl, omega (arith, part_start_lem _ _ _ _ _ _ _ _ q, c.before.prefix_len.ensures)))
 
 pub read-fixed-spec : {M : Type 1} → statement M

@@ -8,7 +8,7 @@ use Rattle.walks.proofs.ChainWalks.{slot_refused, head_refused, head_accepted, w
 use Rattle.walks.specs.Met.{ChainIs}
 use Rattle.laws.proofs.Views.{within, part_view}
 use Rattle.definition.specs.Calls.{checked_key}
-use Rattle.definition.specs.Answers.{parseOf}
+use Rattle.definition.specs.Answers.{parse_of}
 use Rattle.definition.specs.Chains.{head_parse, walk, part}
 use Rattle.definition.specs.Slots.{view, filled}
 use Rattle.walks.proofs.chain.check_chain.Statement.{statement}
@@ -23,7 +23,7 @@ below c = subst (λ (n : ℕ). c.before.before.before.before.args.at < n) c.befo
 
 -- what the head's parse found
 parsed : (c : tie.After-parse-head)
-    → parseOf c.parse-head.result ≡ head_parse c.before.before.before.before.before.before.before.before.args.s (checked_key c.before.before.before.before.before.before.before.before.args.checked c.before.before.before.before.before.before.before.before.args.key.now) 8 (view c.before.before.before.before.before.before.before.before.args.s.size c.before.before.before.before.before.before.before.before.args.table.now c.before.before.before.before.before.before.before.before.args.at)
+    → parse_of c.parse-head.result ≡ head_parse c.before.before.before.before.before.before.before.before.args.s (checked_key c.before.before.before.before.before.before.before.before.args.checked c.before.before.before.before.before.before.before.before.args.key.now) 8 (view c.before.before.before.before.before.before.before.before.args.s.size c.before.before.before.before.before.before.before.before.args.table.now c.before.before.before.before.before.before.before.before.args.at)
 parsed c =
     c.parse-head.ensures
     ∙ ap (head_parse c.before.before.before.before.before.before.before.before.args.s (checked_key c.before.before.before.before.before.before.before.before.args.checked c.before.before.before.before.before.before.before.before.args.key.now) 8) (part_view c.before.before.before.before.before.before.before.before.args.s.size c.before.before.before.before.before.before.before.before.args.at c.before.before.before.before.before.before.before.before.args.table.now)
@@ -31,7 +31,7 @@ parsed c =
 part-is : (c : tie.After-known-told2)
     → part c.before.kind.given.0.0 c.before.kind.given.0.1.0
     ≡ head_parse c.before.before.before.before.before.before.before.before.before.before.before.args.s (checked_key c.before.before.before.before.before.before.before.before.before.before.before.args.checked c.before.before.before.before.before.before.before.before.before.before.before.args.key.now) 8 (view c.before.before.before.before.before.before.before.before.before.before.before.args.s.size c.before.before.before.before.before.before.before.before.before.before.before.args.table.now c.before.before.before.before.before.before.before.before.before.before.before.args.at)
-part-is c = sym (ap parseOf c.before.kind.given.1) ∙ parsed c.before.before.before
+part-is c = sym (ap parse_of c.before.kind.given.1) ∙ parsed c.before.before.before
 
 returns : tie.Need-returns
 returns c =
@@ -75,7 +75,7 @@ walk-chain-requires c κs =
 
 returns-3 : tie.Need-returns-3
 returns-3 c =
-    head_refused _ _ _ _ c.before.before.before.before.before.before.before.before.if1.false (below c.before.before.before.before.before.before.before) c.before.r.given.0.0 (sym (ap parseOf c.before.r.given.1) ∙ parsed c.before.before.before)
+    head_refused _ _ _ _ c.before.before.before.before.before.before.before.before.if1.false (below c.before.before.before.before.before.before.before) c.before.r.given.0.0 (sym (ap parse_of c.before.r.given.1) ∙ parsed c.before.before.before)
 
 returns-4 : tie.Need-returns-4
 returns-4 c =

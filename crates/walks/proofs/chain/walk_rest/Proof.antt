@@ -11,7 +11,7 @@ use Rattle.definition.specs.declared.Parsed.{Parsed}
 use Rattle.definition.specs.declared.PartKind.TheVariants.{Continuation, Last}
 use Rattle.definition.specs.declared.PartKind.{PartKind}
 use Rattle.walks.proofs.WalkLaws.{held_most, held_more, Tallied, start, limit, unlinked, above, bad_part, no_head, last, turn}
-use Rattle.definition.specs.Answers.{parseOf}
+use Rattle.definition.specs.Answers.{parse_of}
 use Rattle.laws.proofs.Sizes.{sizes}
 use Rattle.definition.specs.Slots.{view}
 use Rattle.walks.proofs.chain.walk_rest.Statement.{statement}
@@ -33,7 +33,7 @@ above_zero c = omega (arith, c.before.if1.false)
 
 -- what the look at the part found, whatever the head's mark
 met : (c : tie.After-read-next-part invariant-loop decreases-loop) (mark : Bool)
-    → parseOf c.read-next-part.result ≡ later_parse c.before.before.before.before.before.before.before.before.before.args.s mark (eqb c.before.before.before.before.before.before.before.loop.parts 0) (view c.before.before.before.before.before.before.before.before.before.args.s.size c.before.before.before.before.before.before.before.before.before.args.table.now c.before.before.before.before.before.before.before.loop.at)
+    → parse_of c.read-next-part.result ≡ later_parse c.before.before.before.before.before.before.before.before.before.args.s mark (eqb c.before.before.before.before.before.before.before.loop.parts 0) (view c.before.before.before.before.before.before.before.before.before.args.s.size c.before.before.before.before.before.before.before.before.before.args.table.now c.before.before.before.before.before.before.before.loop.at)
 met c mark =
     c.read-next-part.ensures mark (eqb c.before.before.before.before.before.before.before.loop.parts 0)
     ∙ ap (later_parse c.before.before.before.before.before.before.before.before.before.args.s mark (eqb c.before.before.before.before.before.before.before.loop.parts 0)) (part_view c.before.before.before.before.before.before.before.before.before.args.s.size c.before.before.before.before.before.before.before.loop.at c.before.before.before.before.before.before.before.before.before.args.table.now)
@@ -41,12 +41,12 @@ met c mark =
 continuation : (c : tie.After-known-told3 invariant-loop decreases-loop) (mark : Bool)
     → part (Continuation c.before.kind2.given.0.0) c.before.before.before.before.kind.given.0.1.0
     ≡ later_parse c.before.before.before.before.before.before.before.before.before.before.before.before.before.before.before.args.s mark (eqb c.before.before.before.before.before.before.before.before.before.before.before.before.before.loop.parts 0) (view c.before.before.before.before.before.before.before.before.before.before.before.before.before.before.before.args.s.size c.before.before.before.before.before.before.before.before.before.before.before.before.before.before.before.args.table.now c.before.before.before.before.before.before.before.before.before.before.before.before.before.loop.at)
-continuation c mark = sym (ap parseOf (c.before.before.before.before.kind.given.1 ∙ ap (λ (k : PartKind). Parsed.Part k c.before.before.before.before.kind.given.0.1.0) c.before.kind2.given.1)) ∙ met c.before.before.before.before.before.before mark
+continuation c mark = sym (ap parse_of (c.before.before.before.before.kind.given.1 ∙ ap (λ (k : PartKind). Parsed.Part k c.before.before.before.before.kind.given.0.1.0) c.before.kind2.given.1)) ∙ met c.before.before.before.before.before.before mark
 
 ending : (c : tie.After-enum-told invariant-loop decreases-loop) (mark : Bool)
     → part (Last c.enum_told.given.0.0) c.before.before.before.kind.given.0.1.0
     ≡ later_parse c.before.before.before.before.before.before.before.before.before.before.before.before.before.before.args.s mark (eqb c.before.before.before.before.before.before.before.before.before.before.before.before.loop.parts 0) (view c.before.before.before.before.before.before.before.before.before.before.before.before.before.before.args.s.size c.before.before.before.before.before.before.before.before.before.before.before.before.before.before.args.table.now c.before.before.before.before.before.before.before.before.before.before.before.before.loop.at)
-ending c mark = sym (ap parseOf (c.before.before.before.kind.given.1 ∙ ap (λ (k : PartKind). Parsed.Part k c.before.before.before.kind.given.0.1.0) c.enum_told.given.1)) ∙ met c.before.before.before.before.before mark
+ending c mark = sym (ap parse_of (c.before.before.before.kind.given.1 ∙ ap (λ (k : PartKind). Parsed.Part k c.before.before.before.kind.given.0.1.0) c.enum_told.given.1)) ∙ met c.before.before.before.before.before mark
 
 loop-holds : tie.Need-loop-init invariant-loop decreases-loop
 loop-holds c =
@@ -94,7 +94,7 @@ enum-known-r c =
 
 returns-3 : tie.Need-returns-3 invariant-loop decreases-loop
 returns-3 c =
-    λ mark. bad_part _ _ _ _ mark _ _ _ (c.before.before.before.before.before.before.before.before.before.before.loop.invariant.2 mark) c.before.before.before.before.before.before.before.before.before.loop-test.true (above_zero c.before.before.before.before.before.before.before) c.before.before.before.before.before.before.before.if2.false c.before.r.given.0.0 (sym (ap parseOf c.before.r.given.1) ∙ met c.before.before.before mark)
+    λ mark. bad_part _ _ _ _ mark _ _ _ (c.before.before.before.before.before.before.before.before.before.before.loop.invariant.2 mark) c.before.before.before.before.before.before.before.before.before.loop-test.true (above_zero c.before.before.before.before.before.before.before) c.before.before.before.before.before.before.before.if2.false c.before.r.given.0.0 (sym (ap parse_of c.before.r.given.1) ∙ met c.before.before.before mark)
 
 enum-known-kind : tie.Need-enum-known-kind invariant-loop decreases-loop
 enum-known-kind c =
@@ -131,7 +131,7 @@ enum-told-2 c =
 
 returns-5 : tie.Need-returns-5 invariant-loop decreases-loop
 returns-5 c =
-    λ mark. no_head _ _ _ _ mark _ _ _ (c.before.before.before.before.before.before.before.before.before.before.before.before.loop.invariant.2 mark) c.before.before.before.before.before.before.before.before.before.before.before.loop-test.true (above_zero c.before.before.before.before.before.before.before.before.before) c.before.before.before.before.before.before.before.before.before.if2.false _ _ (sym (ap parseOf (c.before.before.before.kind.given.1 ∙ ap (λ (k : PartKind). Parsed.Part k c.before.before.before.kind.given.0.1.0) c.enum-told2.given.1)) ∙ met c.before.before.before.before.before mark)
+    λ mark. no_head _ _ _ _ mark _ _ _ (c.before.before.before.before.before.before.before.before.before.before.before.before.loop.invariant.2 mark) c.before.before.before.before.before.before.before.before.before.before.before.loop-test.true (above_zero c.before.before.before.before.before.before.before.before.before) c.before.before.before.before.before.before.before.before.before.if2.false _ _ (sym (ap parse_of (c.before.before.before.kind.given.1 ∙ ap (λ (k : PartKind). Parsed.Part k c.before.before.before.kind.given.0.1.0) c.enum-told2.given.1)) ∙ met c.before.before.before.before.before mark)
 
 add_parts : tie.Need-overflow-add-parts invariant-loop decreases-loop
 add_parts c =
