@@ -68,7 +68,7 @@ pub copy_rest-requires : goal.copy_rest-requires
 copy_rest-requires c =
     let span : c.start_span-p.result ≡ start_span c.args.s (view c.args.s.size c.args.table.now c.args.at) = c.start_span-p.ensures ∙ ap (start_span c.args.s) (part_view c.args.s.size c.args.at c.args.table.now) in
     let skipped : c.prefix_len.result + c.args.from ≡ prefix_len c.args.s + c.args.from = ap (λ (k : ℕ). k + c.args.from) c.prefix_len.ensures in
-    let going : Copying c.args.s c.args.table.now (copied _ _ _ _ _ _ c.requires) c.start_span-p.result.next (c.prefix_len.result + c.args.from - c.smaller-k.result) (c.args.n - c.smaller-c.result) c.copy.last.1.1.1.0 c.smaller-c.result × (length c.copy.last.1.1.1.0 ≡ length c.args.out.now) = rest_copying _ _ _ _ _ _ c.requires _ span _ _ _ skipped c.smaller-k.ensures c.smaller-c.ensures _ c.copy.ensures in
+    let going : Copying c.args.s c.args.table.now (copied _ _ _ _ _ _ c.requires) c.start_span-p.result.next (c.prefix_len.result + c.args.from - c.smaller-k.result) (c.args.n - c.smaller-c.result) c.copy.new.dst c.smaller-c.result × (length c.copy.new.dst ≡ length c.args.out.now) = rest_copying _ _ _ _ _ _ c.requires _ span _ _ _ skipped c.smaller-k.ensures c.smaller-c.ensures _ c.copy.ensures in
     (good_settings _ _ _ _ _ _ c.requires, (copied _ _ _ _ _ _ c.requires, going.0))
 
 pub returns : goal.returns
@@ -76,5 +76,5 @@ unfolding copied
 returns c =
     let span : c.start_span-p.result ≡ start_span c.args.s (view c.args.s.size c.args.table.now c.args.at) = c.start_span-p.ensures ∙ ap (start_span c.args.s) (part_view c.args.s.size c.args.at c.args.table.now) in
     let skipped : c.prefix_len.result + c.args.from ≡ prefix_len c.args.s + c.args.from = ap (λ (k : ℕ). k + c.args.from) c.prefix_len.ensures in
-    let going : Copying c.args.s c.args.table.now (copied _ _ _ _ _ _ c.requires) c.start_span-p.result.next (c.prefix_len.result + c.args.from - c.smaller-k.result) (c.args.n - c.smaller-c.result) c.copy.last.1.1.1.0 c.smaller-c.result × (length c.copy.last.1.1.1.0 ≡ length c.args.out.now) = rest_copying _ _ _ _ _ _ c.requires _ span _ _ _ skipped c.smaller-k.ensures c.smaller-c.ensures _ c.copy.ensures in
+    let going : Copying c.args.s c.args.table.now (copied _ _ _ _ _ _ c.requires) c.start_span-p.result.next (c.prefix_len.result + c.args.from - c.smaller-k.result) (c.args.n - c.smaller-c.result) c.copy.new.dst c.smaller-c.result × (length c.copy.new.dst ≡ length c.args.out.now) = rest_copying _ _ _ _ _ _ c.requires _ span _ _ _ skipped c.smaller-k.ensures c.smaller-c.ensures _ c.copy.ensures in
     c.copy_rest.ensures _ going.0
