@@ -8,13 +8,18 @@ use Prim.{tt}
 use Prim.Native.Nat.{ℕ, zero, suc}
 use lib.IntN.{ℤ}
 use mathlib.Core.Path.{◌≡◌, refl, sym, ap, ap₂, ◌∙◌}
-use mathlib.Core.List.{List, []}
+use mathlib.Core.List.{List, [], ◌∷◌, ◌++◌}
+use lib.ListN.{length}
 use mathlib.Core.Bool.{Bool, cond}
 use mathlib.Core.Option.{Option, none, some}
 use contract.Lifetimes.{Lfts}
 use Rattle.definition.specs.declared.Settings.{Settings}
+use Rattle.definition.specs.Tests.{first}
+use Rattle.definition.specs.Numbers.{over}
+use Rattle.definition.specs.Slots.{view, filled, count_of, mark_of}
+use Rattle.definition.specs.Chains.{walk, content_of}
 use Rattle.definition.specs.Answers.{Answer, refusal, at, accepted, count, last_reference_answer, found, members}
-use Rattle.definition.specs.Calls.{unless, answer_unless, counted, Insert, Replace, Remove, Change, insert, replace, remove, change, checked_key, read, look_fixed, find_fixed, free_count}
+use Rattle.definition.specs.Calls.{capacity, table_tests, checked_key_test, chain_tests, output_test, unless, answer_unless, counted, Insert, Replace, Remove, Change, insert, replace, remove, change, checked_key, read, fixed_tests, look_fixed, find_fixed, free_count}
 use Rattle.definition.specs.Ledger.{Read, ReadFixed, FindFixed, FreeCount, Call, Write, Look, Outcome, wrote, told}
 use Rattle.definition.specs.Run.{run}
 use Rattle.station.specs.declared.answers.PyltarkaSettings.{PyltarkaSettings}
@@ -31,18 +36,18 @@ use Rattle.station.proofs.pyltarka_change_count.Reads as change-count-code
 use Rattle.station.proofs.pyltarka_read.Reads as read-code
 use Rattle.station.proofs.pyltarka_read_fixed.Reads as read-fixed-code
 use Rattle.station.proofs.pyltarka_free_count.Reads as free-count-code
-use Rattle.promises.proofs.Performed.{Lent}
+use Rattle.promises.proofs.Performed.{Lent, LentMut}
 
 pub data Exported (s : PyltarkaSettings) : Type 0 where
-  Inserting : (κ : Lfts 3) (table after key value : Lent) (mark : Bool) (r : PyltarkaInserted)
+  Inserting : (κ : Lfts 3) (table after : LentMut) (key value : Lent) (mark : Bool) (r : PyltarkaInserted)
       → insert-code.Post κ (table, (s, (key, (value, (mark, tt))))) r (after, (s, (key, (value, (mark, tt))))) → Exported s
-  Replacing : (κ : Lfts 3) (table after : Lent) (h : ℕ) (key value : Lent) (mark : Bool) (r : ℕ)
+  Replacing : (κ : Lfts 3) (table after : LentMut) (h : ℕ) (key value : Lent) (mark : Bool) (r : ℕ)
       → replace-code.Post κ (table, (s, (h, (key, (value, (mark, tt)))))) r (after, (s, (h, (key, (value, (mark, tt)))))) → Exported s
-  Removing : (κ : Lfts 1) (table after : Lent) (h : ℕ) (r : ℕ)
+  Removing : (κ : Lfts 1) (table after : LentMut) (h : ℕ) (r : ℕ)
       → remove-code.Post κ (table, (s, (h, tt))) r (after, (s, (h, tt))) → Exported s
-  Changing : (κ : Lfts 1) (table after : Lent) (h : ℕ) (step : ℤ) (r : PyltarkaChanged)
+  Changing : (κ : Lfts 1) (table after : LentMut) (h : ℕ) (step : ℤ) (r : PyltarkaChanged)
       → change-count-code.Post κ (table, (s, (h, (step, tt)))) r (after, (s, (h, (step, tt)))) → Exported s
-  Reading : (κ : Lfts 3) (table : Lent) (h : ℕ) (checked : Bool) (key output after : Lent) (r : PyltarkaRecord)
+  Reading : (κ : Lfts 3) (table : Lent) (h : ℕ) (checked : Bool) (key : Lent) (output after : LentMut) (r : PyltarkaRecord)
       → read-code.Post κ (table, (s, (h, (checked, (key, (output, tt)))))) r (table, (s, (h, (checked, (key, (after, tt)))))) → Exported s
   ReadingFixed : (κ : Lfts 2) (table : Lent) (h : ℕ) (checked : Bool) (key : Lent) (r : PyltarkaPart)
       → read-fixed-code.Post κ (table, (s, (h, (checked, (key, tt))))) r (table, (s, (h, (checked, (key, tt))))) → Exported s
@@ -148,8 +153,39 @@ free_back : (s : Settings) (t : List ℕ) → said_by (listed (counted_in (free_
 unfolding free_count
 free_back s t = answer_back (λ a. listed (counted_in a)) _ _ (members_back _) unlisted_back
 
+part_back : (s : Settings) (h len c visits : ℕ) (mark : Bool) → said_by (part (part_in s h (found len mark c visits))) ≡ found len mark c visits
+unfolding answer_unless
+part_back s h len c visits mark = refl
+
+unpart_back : (s : Settings) (h n : ℕ) → said_by (part (part_in s h (refusal (suc n)))) ≡ refusal (suc n)
+unfolding answer_unless
+unpart_back s h n = refl
+
+fixed_back : (s : Settings) (key : Option (List ℕ)) (h : ℕ) (t : List ℕ) → said_by (part (part_in s h (find_fixed s key h t))) ≡ find_fixed s key h t
+unfolding find_fixed look_fixed
+fixed_back s key h t =
+    let f = view s.size t in
+    let content = content_of s f (h ∷ []) in
+    back (λ a. part (part_in s h a)) (first (fixed_tests s key h t)) [] (found (length content) (mark_of s (f h)) (count_of s (f h)) 1, content) (part_back s h (length content) (count_of s (f h)) 1 (mark_of s (f h))) (unpart_back s h)
+
+copied_back : (len c visits : ℕ) (mark : Bool) → said_by (copied (record_in (found len mark c visits))) ≡ found len mark c visits
+unfolding answer_unless
+copied_back len c visits mark = refl
+
+uncopied_back : (n : ℕ) → said_by (copied (record_in (refusal (suc n)))) ≡ refusal (suc n)
+unfolding answer_unless
+uncopied_back n = refl
+
+read_back : (s : Settings) (key : Option (List ℕ)) (h : ℕ) (t out : List ℕ) → said_by (copied (record_in (read s key h t out).0)) ≡ (read s key h t out).0
+unfolding read
+read_back s key h t out =
+    let f = view s.size t in
+    let slots = (walk s f (filled f) h).slots in
+    let content = content_of s f slots in
+    back (λ a. copied (record_in a)) (first (table_tests s f (capacity s t) ++ (checked_key_test s key ∷ chain_tests s f h key) ++ (output_test content out ∷ []))) out (found (length content) (mark_of s (f h)) (count_of s (f h)) (length slots), over content out) (copied_back (length content) (count_of s (f h)) (length slots) (mark_of s (f h))) uncopied_back
+
 pub exported_is : {s : PyltarkaSettings} (p : Exported s) → outcome_of p ≡ run (settings_of s) (call_of p) (start_of p)
-unfolding run insert replace remove change read find_fixed look_fixed answer_unless
+unfolding run insert replace remove change answer_unless
 exported_is (Inserting κ table after key value mark r e) =
     ap₂ (λ (a : Answer) (t : List ℕ). wrote (a, t)) (ap said_by (ap inserted e.0) ∙ back (λ a. inserted (inserted_in a)) _ _ _ refl (λ n. refl)) e.1
 exported_is (Replacing κ table after h key value mark r e) =
@@ -158,10 +194,10 @@ exported_is (Removing κ table after h r e) =
     ap₂ (λ (a : Answer) (t : List ℕ). wrote (a, t)) (ap said_by (ap number e.0) ∙ back (λ a. number (number_in a)) _ _ _ refl (λ n. refl)) e.1
 exported_is (Changing κ table after h step r e) =
     ap₂ (λ (a : Answer) (t : List ℕ). wrote (a, t)) (ap said_by (ap changed e.0) ∙ back (λ a. changed (changed_in a)) _ _ _ (count_back _ _ _ _) (λ n. refl)) e.1
-exported_is (Reading κ table h checked key output after r e) =
-    ap₂ (λ (a : Answer) (t : List ℕ). told table.now (a, t)) (ap said_by (ap copied e.0) ∙ back (λ a. copied (record_in a)) _ _ _ refl (λ n. refl)) e.1
+exported_is {s} (Reading κ table h checked key output after r e) =
+    ap₂ (λ (a : Answer) (t : List ℕ). told table.now (a, t)) (ap said_by (ap copied e.0) ∙ read_back (settings_of s) (checked_key checked key.now) h table.now output.now) e.1
 exported_is {s} (ReadingFixed κ table h checked key r e) =
-    ap (λ (a : Answer). told table.now (a, [])) (ap said_by (ap part e) ∙ back (λ a. part (part_in (settings_of s) h a)) _ _ _ refl (λ n. refl))
+    ap (λ (a : Answer). told table.now (a, [])) (ap said_by (ap part e) ∙ fixed_back (settings_of s) (checked_key checked key.now) h table.now)
 exported_is (Counting κ table r e) =
     ap (λ (a : Answer). told table.now (a, [])) (ap said_by (ap listed e) ∙ free_back _ _)
 

@@ -9,7 +9,7 @@ use mathlib.Core.Path.{◌≡◌, ap}
 use mathlib.Core.List.{List, []}
 use mathlib.Core.Bool.{Bool}
 use contract.Lifetimes.{Lfts}
-use denote.Ref.{Bor}
+use denote.Ref.{Bor, MutBor}
 use Rattle.definition.specs.declared.Settings.{Settings}
 use Rattle.definition.specs.declared.Inserted.{Inserted}
 use Rattle.definition.specs.declared.Written.{Written}
@@ -29,20 +29,23 @@ use Rattle.table.proofs.read_fixed.Reads as read-fixed-code
 use Rattle.table.proofs.find_fixed.Reads as find-fixed-code
 use Rattle.table.proofs.free_count.Reads as free-count-code
 
--- bytes that are lent
+-- bytes that are lent, and bytes that are lent to be written
 abbrev pub Lent : Type 0
 Lent = Bor (List ℕ)
 
+abbrev pub LentMut : Type 0
+LentMut = MutBor (List ℕ)
+
 pub data Performed (s : Settings) : Type 0 where
-  Inserting : (κ : Lfts 3) (table after key value : Lent) (mark : Bool) (r : Inserted)
+  Inserting : (κ : Lfts 3) (table after : LentMut) (key value : Lent) (mark : Bool) (r : Inserted)
       → insert-code.Post κ (table, (s, (key, (value, (mark, tt))))) r (after, (s, (key, (value, (mark, tt))))) → Performed s
-  Replacing : (κ : Lfts 3) (table after : Lent) (h : ℕ) (key value : Lent) (mark : Bool) (r : Written)
+  Replacing : (κ : Lfts 3) (table after : LentMut) (h : ℕ) (key value : Lent) (mark : Bool) (r : Written)
       → replace-code.Post κ (table, (s, (h, (key, (value, (mark, tt)))))) r (after, (s, (h, (key, (value, (mark, tt)))))) → Performed s
-  Removing : (κ : Lfts 1) (table after : Lent) (h : ℕ) (r : Written)
+  Removing : (κ : Lfts 1) (table after : LentMut) (h : ℕ) (r : Written)
       → remove-code.Post κ (table, (s, (h, tt))) r (after, (s, (h, tt))) → Performed s
-  Changing : (κ : Lfts 1) (table after : Lent) (h : ℕ) (step : ℤ) (r : Changed)
+  Changing : (κ : Lfts 1) (table after : LentMut) (h : ℕ) (step : ℤ) (r : Changed)
       → change-count-code.Post κ (table, (s, (h, (step, tt)))) r (after, (s, (h, (step, tt)))) → Performed s
-  Reading : (κ : Lfts 3) (table : Lent) (h : ℕ) (checked : Bool) (key output after : Lent) (r : Found)
+  Reading : (κ : Lfts 3) (table : Lent) (h : ℕ) (checked : Bool) (key : Lent) (output after : LentMut) (r : Found)
       → read-code.Post κ (table, (s, (h, (checked, (key, (output, tt)))))) r (table, (s, (h, (checked, (key, (after, tt)))))) → Performed s
   ReadingFixed : (κ : Lfts 2) (table : Lent) (h : ℕ) (checked : Bool) (key r : Lent)
       → read-fixed-code.Post κ (table, (s, (h, (checked, (key, tt))))) r (table, (s, (h, (checked, (key, tt))))) → Performed s
