@@ -1,5 +1,4 @@
 use native.Mathlib.Omega.{arith}
-use Prim.Native.Nat.{◌-◌}
 use Rattle.copies.proofs.Copies.{copied_none, copied_more, copied_all}
 use Rattle.copies.proofs.copy_blocks.Goals as goal
 

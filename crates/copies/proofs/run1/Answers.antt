@@ -1,5 +1,4 @@
 use native.Mathlib.Omega.{arith}
-use Prim.Native.Nat.{◌-◌}
 use Rattle.copies.proofs.Copies.{copied_none, copied_one, copied_all}
 use Rattle.copies.proofs.run1.Goals as goal
 

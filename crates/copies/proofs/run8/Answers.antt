@@ -1,5 +1,4 @@
 use native.Mathlib.Omega.{arith}
-use Prim.Native.Nat.{◌-◌}
 use Rattle.copies.proofs.Copies.{copied_none, copied_more}
 use Rattle.copies.proofs.run8.Goals as goal
 
