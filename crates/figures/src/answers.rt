@@ -24,10 +24,14 @@ pub fn unknown(rt: &impl Print) -> io::Result<()> {
 
 // Two digits each.
 pub fn digits(rt: &impl Print, b: &[u8]) -> io::Result<()> {
-    for byte in b {
-        print!(rt; " {byte:02x}")?;
+    for x in b {
+        byte(rt, *x)?;
     }
     Ok(())
+}
+
+fn byte(rt: &impl Print, b: u8) -> io::Result<()> {
+    print!(rt; " {b:02x}")
 }
 
 // All of some bytes: themselves, or their sum.
