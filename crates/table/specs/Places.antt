@@ -4,4 +4,4 @@ use Rattle.std.specs.Borrow.{Bor}
 
 -- `part` lies in `whole`, from place n on
 abbrev pub LiesAt : Bor (List ℕ) → Bor (List ℕ) → ℕ → Type 0
-LiesAt part whole n = (part.ptr.0 ≡ whole.ptr.0) × (part.ptr.1 ≡ whole.ptr.1 + n)
+LiesAt part whole n = (part.ref_ptr.0 ≡ whole.ref_ptr.0) × (part.ref_ptr.1 ≡ whole.ref_ptr.1 + n)
