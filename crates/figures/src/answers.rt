@@ -1,98 +1,95 @@
 // How the program writes: words, numbers, bytes, and each kind of answer.
 use definition::{Changed, Found, FreeCount, Inserted, Record, Refusal, Written};
-use libc::STDOUT_FILENO;
 use lines::values;
+use std::io;
 
 // As many bytes as are written one by one; of more the sum is.
 const FEW: usize = 64;
 
-pub fn word(text: &[u8]) {
-    io::write_all(STDOUT_FILENO, text);
+pub fn word(rt: &impl Print, text: &[u8]) -> io::Result<()> {
+    rt.write_all(text)
 }
 
-fn number(name: &[u8], n: u64) {
-    word(name);
-    io::print_decimal(STDOUT_FILENO, n);
+fn number(rt: &impl Print, name: &[u8], n: u64) -> io::Result<()> {
+    word(rt, name)?;
+    rt.print(n)
 }
 
 // To a line that is none of those that the program takes, or whose numbers are too large.
-pub fn unknown() {
-    word(b": ?");
+pub fn unknown(rt: &impl Print) -> io::Result<()> {
+    word(rt, b": ?")
 }
 
 // ---- bytes
 
 // Two digits each.
-pub fn digits(b: &[u8]) {
-    let mut i = 0;
-    while i < b.len() {
-        byte(b[i]);
-        i += 1;
+pub fn digits(rt: &impl Print, b: &[u8]) -> io::Result<()> {
+    for x in b {
+        byte(rt, *x)?;
     }
+    Ok(())
 }
 
-fn byte(b: u8) {
-    word(b" ");
-    io::print_hex(STDOUT_FILENO, b as u64, 2);
+fn byte(rt: &impl Print, b: u8) -> io::Result<()> {
+    print!(rt; " {b:02x}")
 }
 
 // All of some bytes: themselves, or their sum.
-pub fn all(name: &[u8], b: &[u8]) {
-    word(name);
+pub fn all(rt: &impl Print, name: &[u8], b: &[u8]) -> io::Result<()> {
+    word(rt, name)?;
     if b.len() <= FEW {
-        digits(b);
-        return;
+        return digits(rt, b);
     }
-    number(b" sum ", values::sum(b));
+    number(rt, b" sum ", values::sum(b))
 }
 
 // ---- answers
 
-fn refused(r: Refusal) {
-    number(b": refused ", r.number() as u64);
+fn refused(rt: &impl Print, r: Refusal) -> io::Result<()> {
+    number(rt, b": refused ", r.number() as u64)
 }
 
-pub fn inserted(a: Inserted) {
+pub fn inserted(rt: &impl Print, a: Inserted) -> io::Result<()> {
     match a {
-        Inserted::At(slot) => number(b": slot ", slot),
-        Inserted::Refused(r) => refused(r),
+        Inserted::At(slot) => number(rt, b": slot ", slot),
+        Inserted::Refused(r) => refused(rt, r),
     }
 }
 
-pub fn written(a: Written) {
+pub fn written(rt: &impl Print, a: Written) -> io::Result<()> {
     match a {
-        Written::Accepted => word(b": accepted"),
-        Written::Refused(r) => refused(r),
+        Written::Accepted => word(rt, b": accepted"),
+        Written::Refused(r) => refused(rt, r),
     }
 }
 
-pub fn changed(a: Changed) {
+pub fn changed(rt: &impl Print, a: Changed) -> io::Result<()> {
     match a {
-        Changed::Count(n) => number(b": count ", n as u64),
-        Changed::LastReference => word(b": LAST REFERENCE"),
-        Changed::Refused(r) => refused(r),
+        Changed::Count(n) => number(rt, b": count ", n as u64),
+        Changed::LastReference => word(rt, b": LAST REFERENCE"),
+        Changed::Refused(r) => refused(rt, r),
     }
 }
 
-pub fn free_count(a: FreeCount) {
+pub fn free_count(rt: &impl Print, a: FreeCount) -> io::Result<()> {
     match a {
-        FreeCount::Members(n) => number(b": free ", n),
-        FreeCount::Refused(r) => refused(r),
+        FreeCount::Members(n) => number(rt, b": free ", n),
+        FreeCount::Refused(r) => refused(rt, r),
     }
 }
 
-pub fn found(a: Found) {
+pub fn found(rt: &impl Print, a: Found) -> io::Result<()> {
     match a {
-        Found::Content(r) => record(r),
-        Found::Refused(r) => refused(r),
+        Found::Content(r) => record(rt, r),
+        Found::Refused(r) => refused(rt, r),
     }
 }
 
-fn record(r: Record) {
-    number(b": length ", r.len);
+fn record(rt: &impl Print, r: Record) -> io::Result<()> {
+    number(rt, b": length ", r.len)?;
     if r.mark {
-        word(b", compressed");
+        word(rt, b", compressed")?;
     }
-    number(b", count ", r.count as u64);
-    number(b", visits ", r.visits);
+    number(rt, b", count ", r.count as u64)?;
+    number(rt, b", visits ", r.visits)
 }

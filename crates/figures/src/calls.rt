@@ -3,6 +3,7 @@ use crate::answers;
 use definition::Settings;
 use lines::values::Filling;
 use lines::{forms, values, words};
+use std::io;
 
 // What an output holds before a read.
 const UNTOUCHED: u8 = 165;
@@ -43,41 +44,65 @@ pub fn settings(line: &[u8]) -> Settings {
 }
 
 // Does what a line of this kind asks.
-pub fn call(kind: usize, line: &[u8], table: &mut [u8], s: Settings) {
+pub fn call(
+    rt: &impl Print,
+    kind: usize,
+    line: &[u8],
+    table: &mut [u8],
+    s: Settings,
+) -> io::Result<()> {
     if kind < TABLE {
-        write(kind, line, table, s);
-        answers::all(b", table", table);
-        return;
+        write(rt, kind, line, table, s)?;
+        return answers::all(rt, b", table", table);
     }
     match kind {
-        TABLE => values::fill(table, Filling::Same(0), line),
-        5 => set(line, table),
-        6 => read(line, table, s),
-        7 => read_fixed(line, table, s),
-        8 => answers::free_count(table::free_count(table, s)),
-        9 => show(line, table),
-        10 => show_value(line),
-        NOTHING => (),
-        _ => answers::unknown(),
+        TABLE => {
+            values::fill(table, Filling::Same(0), line);
+            Ok(())
+        }
+        5 => set(rt, line, table),
+        6 => read(rt, line, table, s),
+        7 => read_fixed(rt, line, table, s),
+        8 => answers::free_count(rt, table::free_count(table, s)),
+        9 => show(rt, line, table),
+        10 => show_value(rt, line),
+        NOTHING => Ok(()),
+        _ => answers::unknown(rt),
     }
 }
 
 // ---- the calls that write
 
-fn write(kind: usize, line: &[u8], table: &mut [u8], s: Settings) {
+fn write(
+    rt: &impl Print,
+    kind: usize,
+    line: &[u8],
+    table: &mut [u8],
+    s: Settings,
+) -> io::Result<()> {
     let slot = words::number_at(line, 1);
     match kind {
-        0 => store(line, 2, table, s, slot),
-        1 => store(line, 3, table, s, slot),
-        2 => answers::written(table::remove(table, s, slot)),
-        _ => answers::changed(table::change_count(table, s, slot, words::step_at(line, 2))),
+        0 => store(rt, line, 2, table, s, slot),
+        1 => store(rt, line, 3, table, s, slot),
+        2 => answers::written(rt, table::remove(table, s, slot)),
+        _ => answers::changed(
+            rt,
+            table::change_count(table, s, slot, words::step_at(line, 2)),
+        ),
     }
 }
 
 // The record in a line from a place on, its key and then its content: a new one where that is the first place for it.
-fn store(line: &[u8], place: usize, table: &mut [u8], s: Settings, slot: u64) {
-    let mut key_room = io::large_buffer();
-    let mut content_room = io::large_buffer();
+fn store(
+    rt: &impl Print,
+    line: &[u8],
+    place: usize,
+    table: &mut [u8],
+    s: Settings,
+    slot: u64,
+) -> io::Result<()> {
+    let mut key_room = [0; values::ROOM];
+    let mut content_room = [0; values::ROOM];
     let record = words::rest(line, place, b' ');
     let k = values::value_at(record, 0, &mut key_room);
     let n = values::value_at(record, 2, &mut content_room);
@@ -85,74 +110,90 @@ fn store(line: &[u8], place: usize, table: &mut [u8], s: Settings, slot: u64) {
     let key = values::front(&key_room, k);
     let content = values::front(&content_room, n);
     if place == 2 {
-        answers::inserted(table::insert(table, s, key, content, mark));
-    } else {
-        answers::written(table::replace(table, s, slot, key, content, mark));
+        return answers::inserted(rt, table::insert(table, s, key, content, mark));
     }
+    answers::written(rt, table::replace(table, s, slot, key, content, mark))
 }
 
-fn set(line: &[u8], table: &mut [u8]) {
+fn set(rt: &impl Print, line: &[u8], table: &mut [u8]) -> io::Result<()> {
     let place = words::number_at(line, 1);
     let byte = words::number_at(line, 2);
     if place < table.len() as u64 {
         if byte < 256 {
             table[place as usize] = byte as u8;
-            answers::all(b": table", table);
-            return;
+            return answers::all(rt, b": table", table);
         }
     }
-    answers::unknown();
+    answers::unknown(rt)
 }
 
 // ---- the reads
 
-fn read(line: &[u8], table: &[u8], s: Settings) {
-    let mut key = io::large_buffer();
-    let mut output = io::large_buffer();
+fn read(rt: &impl Print, line: &[u8], table: &[u8], s: Settings) -> io::Result<()> {
+    let mut key = [0; values::ROOM];
+    let mut output = [0; values::ROOM];
     let n = values::value_at(line, 4, &mut key);
-    read_part(line, table, s, values::front(&key, n), &mut output);
+    read_part(rt, line, table, s, values::front(&key, n), &mut output)
 }
 
 // As much of the output as the line asks for is lent to the read.
-fn read_part(line: &[u8], table: &[u8], s: Settings, key: &[u8], output: &mut [u8]) {
+fn read_part(
+    rt: &impl Print,
+    line: &[u8],
+    table: &[u8],
+    s: Settings,
+    key: &[u8],
+    output: &mut [u8],
+) -> io::Result<()> {
     let len = words::number_at(line, 6);
     if len > output.len() as u64 {
-        answers::unknown();
-        return;
+        return answers::unknown(rt);
     }
     let n = len as usize;
-    read_into(line, table, s, key, &mut output[0..n]);
+    read_into(rt, line, table, s, key, &mut output[0..n])
 }
 
 // The copying read, and the whole of its output afterwards.
-fn read_into(line: &[u8], table: &[u8], s: Settings, key: &[u8], room: &mut [u8]) {
+fn read_into(
+    rt: &impl Print,
+    line: &[u8],
+    table: &[u8],
+    s: Settings,
+    key: &[u8],
+    room: &mut [u8],
+) -> io::Result<()> {
     values::fill(room, Filling::Same(UNTOUCHED), key);
     let slot = words::number_at(line, 1);
-    answers::found(table::read(table, s, slot, words::is_at(line, 2, b"checked"), key, room));
-    answers::all(b", output", room);
+    let checked = words::is_at(line, 2, b"checked");
+    answers::found(rt, table::read(table, s, slot, checked, key, room))?;
+    answers::all(rt, b", output", room)
 }
 
 // What the fixed read's companion tells, and the part of the table that the fixed read hands back.
-fn read_fixed(line: &[u8], table: &[u8], s: Settings) {
-    let mut room = io::large_buffer();
+fn read_fixed(rt: &impl Print, line: &[u8], table: &[u8], s: Settings) -> io::Result<()> {
+    let mut room = [0; values::ROOM];
     let n = values::value_at(line, 4, &mut room);
     let key = values::front(&room, n);
     let slot = words::number_at(line, 1);
     let checked = words::is_at(line, 2, b"checked");
-    answers::found(table::find_fixed(table, s, slot, checked, key));
-    answers::all(b", part", table::read_fixed(table, s, slot, checked, key));
+    answers::found(rt, table::find_fixed(table, s, slot, checked, key))?;
+    answers::all(
+        rt,
+        b", part",
+        table::read_fixed(table, s, slot, checked, key),
+    )
 }
 
 // As many of these bytes as the table has.
-fn show(line: &[u8], table: &[u8]) {
+fn show(rt: &impl Print, line: &[u8], table: &[u8]) -> io::Result<()> {
     let from = words::number_at(line, 1) as usize;
     let many = words::number_at(line, 2) as usize;
-    answers::word(b":");
-    answers::digits(values::front(values::back(table, from), many));
+    answers::word(rt, b":")?;
+    answers::digits(rt, values::front(values::back(table, from), many))
 }
 
-fn show_value(line: &[u8]) {
-    let mut room = io::large_buffer();
+fn show_value(rt: &impl Print, line: &[u8]) -> io::Result<()> {
+    let mut room = [0; values::ROOM];
     let n = values::value_at(line, 1, &mut room);
-    answers::all(b":", values::front(&room, n));
+    answers::all(rt, b":", values::front(&room, n))
 }

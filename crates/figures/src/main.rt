@@ -5,10 +5,11 @@
 mod answers;
 mod calls;
 
-ghost use Rattle.std.specs.Prelude.{◌≡◌, length};
+ghost use Rattle.std.specs.Prelude.{◌≡◌, ◌≤◌, length, IfOk};
 
-use libc::STDIN_FILENO;
 use lines::{values, words};
+use std::io;
+use std::io::Read;
 
 // Room for a table of three slots of the largest entry size and some bytes after them; and for as much input: what is longer is left out.
 fn buffer() -> [u8; 98304]
@@ -17,45 +18,67 @@ fn buffer() -> [u8; 98304]
     [0; 98304]
 }
 
-fn main() {
+fn main(rt: HostRuntime) -> io::Result<()> {
     let mut input = buffer();
     let mut buffer = buffer();
-    let n = io::read_full(STDIN_FILENO, &mut input);
-    answer_all(values::front(&input, n), &mut buffer);
+    let n = read_full(&mut rt.reader(), &mut input)?;
+    answer_all(&rt, values::front(&input, n), &mut buffer)
+}
+
+// Reads until the room is full or the input ends: how many bytes it put at the start of the room.
+fn read_full(reader: &mut impl Read, room: &mut [u8]) -> io::Result<usize>
+    ensures { IfOk result (λ n. n ≤ length room.new) }
+{
+    let mut done = 0;
+    while done < room.len() {
+        let n = reader.read(&mut room[done..])?;
+        if n == 0 {
+            break;
+        }
+        done += n;
+    }
+    Ok(done)
 }
 
 // Each line in turn; a text has no more of them than bytes. The calls are on the table of the last line `table`; before the first there is
 // none, and every call is refused.
-fn answer_all(text: &[u8], buffer: &mut [u8]) {
+fn answer_all(rt: &impl Print, text: &[u8], buffer: &mut [u8]) -> io::Result<()> {
     let mut table = text.len();
     let mut i = 0;
     while i < text.len() {
         if words::rest(text, i, b'\n').len() == 0 {
-            return;
+            return Ok(());
         }
         let kind = calls::kind(words::part(text, i, b'\n'));
         if kind == calls::TABLE {
             table = i;
         }
         answer(
+            rt,
             kind,
             words::part(text, i, b'\n'),
             words::part(text, table, b'\n'),
             buffer,
-        );
+        )?;
         i += 1;
     }
+    Ok(())
 }
 
 // Writes a line and its answer.
-fn answer(kind: usize, line: &[u8], table: &[u8], buffer: &mut [u8]) {
-    answers::word(line);
+fn answer(
+    rt: &impl Print,
+    kind: usize,
+    line: &[u8],
+    table: &[u8],
+    buffer: &mut [u8],
+) -> io::Result<()> {
+    answers::word(rt, line)?;
     let len = words::number_at(table, 5);
     if len > buffer.len() as u64 {
-        answers::word(b": ?\n");
-        return;
+        return answers::word(rt, b": ?\n");
     }
     let n = len as usize;
-    calls::call(kind, line, &mut buffer[0..n], calls::settings(table));
-    answers::word(b"\n");
+    calls::call(rt, kind, line, &mut buffer[0..n], calls::settings(table))?;
+    answers::word(rt, b"\n")
 }

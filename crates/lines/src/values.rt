@@ -1,6 +1,9 @@
 // Keys and contents, each one word of a line: given byte by byte, or made of numbers so that long ones need no letters.
 use crate::words;
 
+// The longest key or content that a word stands for.
+pub const ROOM: usize = 65536;
+
 // In place of a length: the word stands for no bytes that the room holds.
 const NONE: usize = usize::MAX;
 
@@ -28,7 +31,7 @@ fn put(word: &[u8], room: &mut [u8]) -> usize {
 }
 
 pub fn is_value(word: &[u8]) -> bool {
-    let mut room = io::large_buffer();
+    let mut room = [0; ROOM];
     put(word, &mut room) != NONE
 }
 

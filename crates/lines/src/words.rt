@@ -32,9 +32,15 @@ pub fn rest<'a>(text: &'a [u8], place: usize, separator: u8) -> &'a [u8] {
 }
 
 pub fn part<'a>(text: &'a [u8], place: usize, separator: u8) -> &'a [u8] {
-    let from = start(text, place, separator);
-    let to = bytes::scan::find(text, from, text.len(), separator);
-    &text[from..to]
+    front_to(rest(text, place, separator), separator)
+}
+
+// What stands before the first separator, or all where there is none.
+fn front_to<'a>(text: &'a [u8], separator: u8) -> &'a [u8] {
+    match text.iter().position(|b| *b == separator) {
+        Some(to) => &text[..to],
+        None => text,
+    }
 }
 
 pub fn word<'a>(line: &'a [u8], place: usize) -> &'a [u8] {
@@ -42,14 +48,14 @@ pub fn word<'a>(line: &'a [u8], place: usize) -> &'a [u8] {
 }
 
 pub fn is_at(line: &[u8], place: usize, name: &[u8]) -> bool {
-    check::same(word(line, place), name)
+    word(line, place) == name
 }
 
 // The place of a word among some names, or MOST.
 pub fn which(word: &[u8], names: &[u8], separator: u8) -> usize {
     let mut i = 0;
     while i < MOST {
-        if check::same(part(names, i, separator), word) {
+        if part(names, i, separator) == word {
             return i;
         }
         i += 1;
