@@ -1,4 +1,4 @@
-use Rattle.std.proofs.Common.{◌-◌, arith}
+use Rattle.std.proofs.Common.{arith}
 use Rattle.number_loops.proofs.number_loops_fill.Goals as goal
 
 pub loop-s-init : goal.loop-s-init

@@ -1,4 +1,4 @@
-use Rattle.std.proofs.Common.{◌-◌, arith}
+use Rattle.std.proofs.Common.{arith}
 use Rattle.number_loops.proofs.number_loops_sum.Goals as goal
 
 pub loop-at-init : goal.loop-at-init
