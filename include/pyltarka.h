@@ -13,7 +13,7 @@
  *     of table and output has changed.
  *   - No call allocates, keeps a pointer, or has a state of its own. Calls on different buffers may run at the same time.
  *
- * Link with target/staticlib/libstation.a, which `rt staticlib station` writes (x86-64). Of the C library it needs memmove alone.
+ * Link with target/staticlib/libstation.a, which `./library` writes (x86-64). Of the C library it needs memmove alone.
  */
 #ifndef PYLTARKA_H
 #define PYLTARKA_H

@@ -32,6 +32,16 @@ fn proved_library(root: &Path) -> PathBuf {
     }
 }
 
+/// What the library is made from. Beside these, rt keeps its work in out/ of each crate, which changes with each build.
+fn made_from(root: &Path) -> Vec<PathBuf> {
+    let mut found = vec![root.join("library"), root.join("crates.txt")];
+    for folder in fs::read_dir(root.join("crates")).unwrap() {
+        let folder = folder.unwrap().path();
+        found.extend(["src", "specs", "proofs"].map(|part| folder.join(part)).into_iter().filter(|part| part.is_dir()));
+    }
+    found
+}
+
 fn main() {
     let root = Path::new(&env::var("CARGO_MANIFEST_DIR").unwrap()).join("../..");
     println!("cargo:rerun-if-env-changed=PYLTARKA_LIB_DIR");
@@ -43,8 +53,8 @@ fn main() {
             archive
         }
         Err(_) => {
-            for made_from in ["library", "crates", "crates.txt"] {
-                println!("cargo:rerun-if-changed={}", root.join(made_from).display());
+            for made_from in made_from(&root) {
+                println!("cargo:rerun-if-changed={}", made_from.display());
             }
             proved_library(&root)
         }

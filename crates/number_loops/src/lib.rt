@@ -1,4 +1,4 @@
-// Loops over eight-byte numbers as C functions, for the benchmark alone: `rt staticlib number_loops`. The library that is shipped has
+// Loops over eight-byte numbers as C functions, for the benchmark alone: `./library number_loops`. The library that is shipped has
 // none of it. They are proved safe and ending; that their answers are the Rust's, the benchmark compares.
 #![tactic(auto)]
 

@@ -1,6 +1,5 @@
-// The calls of the station for C and whatever links C: `rt staticlib station` writes them as target/staticlib/libstation.a, and
-// include/pyltarka.h declares them. Each is a call of `table` under its whole contract, its settings and its answer in C's form.
-// A slice is a pointer and a length; a null pointer with length 0 is an empty one.
+// The calls of the station for C and whatever links C, which include/pyltarka.h declares: each is a call of `table` under its whole
+// contract, its settings and its answer in C's form. The crate station_c exports them.
 #![tactic(auto)]
 
 mod answers;
@@ -9,16 +8,16 @@ ghost use Rattle.std.specs.Prelude.{◌≡◌};
 ghost use Rattle.definition.specs.Calls.{insert, replace, remove, change, checked_key, read, find_fixed, free_count};
 ghost use Rattle.station.specs.Forms.{settings_of, number_in, inserted_in, changed_in, record_in, part_in, counted_in};
 
-use crate::answers::{
+use crate::answers::{changed_in, counted_in, inserted_in, number_in, record_in, settings_of};
+pub use answers::{
     PyltarkaChanged, PyltarkaCounted, PyltarkaInserted, PyltarkaPart, PyltarkaRecord,
-    PyltarkaSettings, changed_in, counted_in, inserted_in, number_in, record_in, settings_of,
+    PyltarkaSettings,
 };
 use definition::Found;
 use slots::settings::prefix_len;
 
 // Stores a record under a key with its content and compressed mark; answers the slot of its head.
-#[unsafe(no_mangle)]
-pub extern "C" fn pyltarka_insert(
+pub fn pyltarka_insert(
     table: &mut [u8],
     s: PyltarkaSettings,
     key: &[u8],
@@ -32,8 +31,7 @@ pub extern "C" fn pyltarka_insert(
 }
 
 // Replaces the record whose head is in the slot: key, content and mark anew, the count 1 again.
-#[unsafe(no_mangle)]
-pub extern "C" fn pyltarka_replace(
+pub fn pyltarka_replace(
     table: &mut [u8],
     s: PyltarkaSettings,
     slot: u64,
@@ -48,8 +46,7 @@ pub extern "C" fn pyltarka_replace(
 }
 
 // Removes the record whose head is in the slot.
-#[unsafe(no_mangle)]
-pub extern "C" fn pyltarka_remove(table: &mut [u8], s: PyltarkaSettings, slot: u64) -> u32
+pub fn pyltarka_remove(table: &mut [u8], s: PyltarkaSettings, slot: u64) -> u32
     ensures { (result ≡ number_in (remove (settings_of s) slot table.old).0)
         × (table.new ≡ (remove (settings_of s) slot table.old).1) }
 {
@@ -57,8 +54,7 @@ pub extern "C" fn pyltarka_remove(table: &mut [u8], s: PyltarkaSettings, slot: u
 }
 
 // Changes the count of the record in a slot by a signed step; answers the stored count, or that this was the last reference.
-#[unsafe(no_mangle)]
-pub extern "C" fn pyltarka_change_count(
+pub fn pyltarka_change_count(
     table: &mut [u8],
     s: PyltarkaSettings,
     slot: u64,
@@ -71,8 +67,7 @@ pub extern "C" fn pyltarka_change_count(
 }
 
 // The copying read: the content into the front of the output, whose bytes past it stay. With a key checked, or without.
-#[unsafe(no_mangle)]
-pub extern "C" fn pyltarka_read(
+pub fn pyltarka_read(
     table: &[u8],
     s: PyltarkaSettings,
     slot: u64,
@@ -87,8 +82,7 @@ pub extern "C" fn pyltarka_read(
 }
 
 // The fixed read: where in the table the content starts, and what its companion tells. On a multipart table it gives 1.
-#[unsafe(no_mangle)]
-pub extern "C" fn pyltarka_read_fixed(
+pub fn pyltarka_read_fixed(
     table: &[u8],
     s: PyltarkaSettings,
     slot: u64,
@@ -123,8 +117,7 @@ pub extern "C" fn pyltarka_read_fixed(
 }
 
 // The members of the free list.
-#[unsafe(no_mangle)]
-pub extern "C" fn pyltarka_free_count(table: &[u8], s: PyltarkaSettings) -> PyltarkaCounted
+pub fn pyltarka_free_count(table: &[u8], s: PyltarkaSettings) -> PyltarkaCounted
     ensures { result ≡ counted_in (free_count (settings_of s) table.now) }
 {
     counted_in(table::free_count(table, settings_of(s)))
