@@ -14,7 +14,7 @@ use Rattle.definition.specs.Slots.{View, view, filled, store}
 use Rattle.definition.specs.FreeList.{free_list, members_of}
 use Rattle.definition.specs.Parts.{prefix}
 use Rattle.definition.specs.Effect.{new_slots, free_after, filled_after, effect}
-use Rattle.definition.specs.Answers.{Answer, at, accepted}
+use Rattle.definition.specs.Answers.{Answer, accepted}
 use Rattle.definition.specs.Calls.{capacity, key_test, value_test, free_list_test, room_test, table_tests, insert, replace, remove, Insert, Replace, Remove}
 use Rattle.definition.specs.Sound.{occ, chain_at, SoundView, Sound}
 use Rattle.definition.specs.Ledger.{Write, wrote, with_chain, new_chain, chain_test, target, ledger_step}

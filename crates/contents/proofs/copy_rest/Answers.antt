@@ -96,11 +96,10 @@ loop-left-smaller c =
 pub loop-left-preserved : goal.loop-left-preserved
 loop-left-preserved c =
     let copying : (T : List ℕ) → Copying c.args.s c.args.table.now T c.args.start c.args.from c.args.n c.args.out.now c.args.to → Copying c.args.s c.args.table.now T c.loop-left.at c.loop-left.skip c.loop-left.left c.loop-left.out c.loop-left.pos = λ T g. c.loop-left.invariant.1 T g in
-    let span : c.part_span-p.result ≡ part_span c.args.s (view c.args.s.size c.args.table.now c.loop-left.at) = c.part_span-p.ensures ∙ ap (part_span c.args.s) (part_view c.args.s.size c.loop-left.at c.args.table.now) in
-    (
-  (turn _ _ _ _ _ _ _ _ c.requires.0 (copying c.requires.1.0 c.requires.1.1) c.loop-left-test.true _ span _ _ c.smaller-k.ensures c.smaller-c.ensures _ c.copy.ensures).1 ∙ c.loop-left.invariant.0,
-  λ T g. (turn _ _ T _ _ _ _ _ c.requires.0 (copying T g) c.loop-left-test.true _ span _ _ c.smaller-k.ensures c.smaller-c.ensures _ c.copy.ensures).0,
-)
+    let span : c.part_span-p.result ≡ part_span c.args.s (view c.args.s.size c.args.table.now c.loop-left.at) = c.part_span-p.ensures ∙ ap (part_span c.args.s) (part_view c.args.s.size c.loop-left.at c.args.table.now) in (
+      (turn _ _ _ _ _ _ _ _ c.requires.0 (copying c.requires.1.0 c.requires.1.1) c.loop-left-test.true _ span _ _ c.smaller-k.ensures c.smaller-c.ensures _ c.copy.ensures).1 ∙ c.loop-left.invariant.0,
+      λ T g. (turn _ _ T _ _ _ _ _ c.requires.0 (copying T g) c.loop-left-test.true _ span _ _ c.smaller-k.ensures c.smaller-c.ensures _ c.copy.ensures).0,
+    )
 
 pub returns : goal.returns
 returns c =

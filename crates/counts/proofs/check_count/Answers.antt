@@ -39,7 +39,7 @@ returns-in-Refused c =
     let slot : List ℕ = view c.args.s.size c.args.table.now c.args.at in
     let below : c.args.at < filled (view c.args.s.size c.args.table.now) = subst (λ (n : ℕ). c.args.at < n) c.requires.2 c.if-at-filled.false in
     let parsed : parse_of c.parse_head.result ≡ head_parse c.args.s none 8 slot = let a = c.args in
-        c.parse_head.ensures ∙ ap (head_parse a.s none 8) (part_view a.s.size a.at a.table.now) in
+    c.parse_head.ensures ∙ ap (head_parse a.s none 8) (part_view a.s.size a.at a.table.now) in
     head_refused _ _ _ c.if-at-eq0.false below c.in-Refused.r (sym (ap parse_of c.in-Refused.is) ∙ parsed)
 
 pub returns-in-Part : goal.returns-in-Part
@@ -47,7 +47,7 @@ returns-in-Part c =
     let slot : List ℕ = view c.args.s.size c.args.table.now c.args.at in
     let below : c.args.at < filled (view c.args.s.size c.args.table.now) = subst (λ (n : ℕ). c.args.at < n) c.requires.2 c.if-at-filled.false in
     let parsed : parse_of c.parse_head.result ≡ head_parse c.args.s none 8 slot = let a = c.args in
-        c.parse_head.ensures ∙ ap (head_parse a.s none 8) (part_view a.s.size a.at a.table.now) in
+    c.parse_head.ensures ∙ ap (head_parse a.s none 8) (part_view a.s.size a.at a.table.now) in
     let a = c.args in
     head_counted _ _ _ c.if-at-eq0.false below _ _ c.read_count.result (sym (ap parse_of c.in-Part.is) ∙ parsed)
     (c.read_count.ensures ∙ ap (count_of a.s) (part_view a.s.size a.at a.table.now))

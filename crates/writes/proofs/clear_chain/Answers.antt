@@ -3,7 +3,6 @@ use mathlib.Core.Path.{◌≡◌, refl, ◌∙◌}
 use Prim.Native.Nat.{ℕ}
 use lib.ListN.{length}
 use Rattle.writes.proofs.Clearing.{Clearing, Turned, slot_asks, header_fits, clear_turn, clear_done, clear_header}
-use Rattle.writes.specs.Steps.{next_part}
 use Rattle.writes.proofs.clear_chain.Goals as goal
 
 pub loop-slot-init : goal.loop-slot-init

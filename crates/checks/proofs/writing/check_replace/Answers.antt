@@ -58,7 +58,7 @@ returns-in-Refused-check_room c =
     let valued-is : Values (Valued.Parts c.in-Parts.need) = subst Values c.in-Parts.is c.check_value.ensures in
     let walked-is : Chains (Walked.Chain c.in-Chain.x) = subst Chains c.in-Chain.is c.check_chain.ensures in
     let roomed : Rooms c.check_room.result = let a = c.args in
-        subst (RoomStage c.check_room.result a.s a.table.now) (c.short_by.ensures ∙ ap₂ (λ (i j : ℕ). i - j) valued-is.1 walked-is.1) c.check_room.ensures in
+    subst (RoomStage c.check_room.result a.s a.table.now) (c.short_by.ensures ∙ ap₂ (λ (i j : ℕ). i - j) valued-is.1 walked-is.1) c.check_room.ensures in
     first_past _ _ opened-is.0 ∙ first_past _ _ valued-is.0 ∙ first_past _ _ walked-is.0 ∙ subst Rooms c.in-Refused-check_room.is roomed
 
 pub returns-in-Accepted : goal.returns-in-Accepted
@@ -71,5 +71,5 @@ returns-in-Accepted c =
     let valued-is : Values (Valued.Parts c.in-Parts.need) = subst Values c.in-Parts.is c.check_value.ensures in
     let walked-is : Chains (Walked.Chain c.in-Chain.x) = subst Chains c.in-Chain.is c.check_chain.ensures in
     let roomed : Rooms c.check_room.result = let a = c.args in
-        subst (RoomStage c.check_room.result a.s a.table.now) (c.short_by.ensures ∙ ap₂ (λ (i j : ℕ). i - j) valued-is.1 walked-is.1) c.check_room.ensures in
+    subst (RoomStage c.check_room.result a.s a.table.now) (c.short_by.ensures ∙ ap₂ (λ (i j : ℕ). i - j) valued-is.1 walked-is.1) c.check_room.ensures in
     (first_past _ _ opened-is.0 ∙ first_past _ _ valued-is.0 ∙ first_past _ _ walked-is.0 ∙ subst Rooms c.in-Accepted.is roomed, ap₂ eqb valued-is.1 walked-is.1)

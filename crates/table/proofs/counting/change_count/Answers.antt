@@ -58,7 +58,7 @@ returns-in-Last c =
     let counted_is : c.args.s.counted ≡ true = not-false c.args.s.counted c.if-not-s.false in
     let count-is : Counts (Counted.Count c.in-Count.count) = subst Counts c.in-Count.is c.check_count.ensures in
     let stepped-is : c.after_step.result ≡ stepped_to (new_count c.in-Count.count c.args.step) = let a = c in
-        c.after_step.ensures ∙ ap (λ (z : ℤ). stepped_to (new_count c.in-Count.count z)) (to_z-of_z w32 a.args.step a.ranges.step) in
+    c.after_step.ensures ∙ ap (λ (z : ℤ). stepped_to (new_count c.in-Count.count z)) (to_z-of_z w32 a.args.step a.ranges.step) in
     let a = c.args in
     change_last a.s a.step a.slot a.table.now _ opened-is counted_is _ count-is (sym c.in-Last.is ∙ stepped-is)
 
@@ -70,7 +70,7 @@ returns-in-Count-after_step c =
     let counted_is : c.args.s.counted ≡ true = not-false c.args.s.counted c.if-not-s.false in
     let count-is : Counts (Counted.Count c.in-Count.count) = subst Counts c.in-Count.is c.check_count.ensures in
     let stepped-is : c.after_step.result ≡ stepped_to (new_count c.in-Count.count c.args.step) = let a = c in
-        c.after_step.ensures ∙ ap (λ (z : ℤ). stepped_to (new_count c.in-Count.count z)) (to_z-of_z w32 a.args.step a.ranges.step) in
+    c.after_step.ensures ∙ ap (λ (z : ℤ). stepped_to (new_count c.in-Count.count z)) (to_z-of_z w32 a.args.step a.ranges.step) in
     let a = c.args in
     change_stored a.s a.step a.slot a.table.now _ opened-is counted_is _ count-is
     c.in-Count-after_step.n (sym c.in-Count-after_step.is ∙ stepped-is) _ c.store_count.ensures

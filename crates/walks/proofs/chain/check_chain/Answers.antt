@@ -39,7 +39,7 @@ pub walk_chain-requires : goal.walk_chain-requires
 walk_chain-requires c =
     let below : c.args.at < filled (view c.args.s.size c.args.table.now) = subst (λ (n : ℕ). c.args.at < n) c.requires.2 c.if-at-filled.false in
     let parsed : parse_of c.parse_head.result ≡ head_parse c.args.s (checked_key c.args.checked c.args.key.now) 8 (view c.args.s.size c.args.table.now c.args.at) = c.parse_head.ensures
-        ∙ ap (head_parse c.args.s (checked_key c.args.checked c.args.key.now) 8) (part_view c.args.s.size c.args.at c.args.table.now) in
+    ∙ ap (head_parse c.args.s (checked_key c.args.checked c.args.key.now) 8) (part_view c.args.s.size c.args.at c.args.table.now) in
     let part-is : part c.in-Part.kind c.in-Part.n ≡ head_parse c.args.s (checked_key c.args.checked c.args.key.now) 8 (view c.args.s.size c.args.table.now c.args.at) = sym (ap parse_of c.in-Part.is) ∙ parsed in
     let a = head_accepted _ _ _ _ c.if-at-eq0.false below _ _ part-is in
     (c.requires.0, c.requires.1, omega (arith, c.if-at-eq0.false), c.if-at-filled.false, a.0, a.1)
@@ -48,14 +48,14 @@ pub returns-in-Refused : goal.returns-in-Refused
 returns-in-Refused c =
     let below : c.args.at < filled (view c.args.s.size c.args.table.now) = subst (λ (n : ℕ). c.args.at < n) c.requires.2 c.if-at-filled.false in
     let parsed : parse_of c.parse_head.result ≡ head_parse c.args.s (checked_key c.args.checked c.args.key.now) 8 (view c.args.s.size c.args.table.now c.args.at) = c.parse_head.ensures
-        ∙ ap (head_parse c.args.s (checked_key c.args.checked c.args.key.now) 8) (part_view c.args.s.size c.args.at c.args.table.now) in
+    ∙ ap (head_parse c.args.s (checked_key c.args.checked c.args.key.now) 8) (part_view c.args.s.size c.args.at c.args.table.now) in
     head_refused _ _ _ _ c.if-at-eq0.false below c.in-Refused.r (sym (ap parse_of c.in-Refused.is) ∙ parsed)
 
 pub returns-in-Part : goal.returns-in-Part
 returns-in-Part c =
     let below : c.args.at < filled (view c.args.s.size c.args.table.now) = subst (λ (n : ℕ). c.args.at < n) c.requires.2 c.if-at-filled.false in
     let parsed : parse_of c.parse_head.result ≡ head_parse c.args.s (checked_key c.args.checked c.args.key.now) 8 (view c.args.s.size c.args.table.now c.args.at) = c.parse_head.ensures
-        ∙ ap (head_parse c.args.s (checked_key c.args.checked c.args.key.now) 8) (part_view c.args.s.size c.args.at c.args.table.now) in
+    ∙ ap (head_parse c.args.s (checked_key c.args.checked c.args.key.now) 8) (part_view c.args.s.size c.args.at c.args.table.now) in
     let part-is : part c.in-Part.kind c.in-Part.n ≡ head_parse c.args.s (checked_key c.args.checked c.args.key.now) 8 (view c.args.s.size c.args.table.now c.args.at) = sym (ap parse_of c.in-Part.is) ∙ parsed in
     let A = c.args in
     walk_decides _ _ _ _ c.if-at-eq0.false below _ _ part-is c.walk_chain.result

@@ -26,10 +26,10 @@ overflow_add-z c =
 pub overflow_add-bytes : goal.overflow_add-bytes
 overflow_add-bytes c =
     let rest : Walk = let A = c.args in
-        let f = view A.s.size A.table.now in parts_from A.s f A.filled (mark_of A.s (f A.at)) true (A.filled - 2) (head_link A.s (f A.at)) in
+    let f = view A.s.size A.table.now in parts_from A.s f A.filled (mark_of A.s (f A.at)) true (A.filled - 2) (head_link A.s (f A.at)) in
     let walked : RestIs c.walk_rest.result (view c.args.s.size c.args.table.now) rest = let A = c.args in
-        let f = view A.s.size A.table.now in
-        subst (λ (a : ℕ). RestIs c.walk_rest.result f (parts_from A.s f A.filled (mark_of A.s (f A.at)) true (A.filled - 2) a)) c.requires.5 (c.walk_rest.ensures (mark_of A.s (f A.at))) in
+    let f = view A.s.size A.table.now in
+    subst (λ (a : ℕ). RestIs c.walk_rest.result f (parts_from A.s f A.filled (mark_of A.s (f A.at)) true (A.filled - 2) a)) c.requires.5 (c.walk_rest.ensures (mark_of A.s (f A.at))) in
     let met : RestIs (Walked.Chain c.in-Chain.rest) (view c.args.s.size c.args.table.now) rest = subst (λ (x : Walked). RestIs x (view c.args.s.size c.args.table.now) rest) c.in-Chain.is walked in
     let fitting : (length rest.slots ≤ c.args.filled - 2) × (length (rest_body (view c.args.s.size c.args.table.now) rest.slots) + c.args.s.size ≤ length c.args.table.now) = rest_fits c.args.s c.args.table.now c.args.filled _ _ c.requires.3 c.requires.1 met.0 in
     let f = fitting in omega (arith, f.1, met.2, c.requires.6)
@@ -52,10 +52,10 @@ pub returns-then-bytes-prefix_len : goal.returns-then-bytes-prefix_len
 returns-then-bytes-prefix_len c =
     let inside : c.args.at * c.args.s.size + c.args.s.size ≤ length c.args.table.now = within _ _ c.args.filled _ c.requires.2 c.requires.1 in
     let rest : Walk = let A = c.args in
-        let f = view A.s.size A.table.now in parts_from A.s f A.filled (mark_of A.s (f A.at)) true (A.filled - 2) (head_link A.s (f A.at)) in
+    let f = view A.s.size A.table.now in parts_from A.s f A.filled (mark_of A.s (f A.at)) true (A.filled - 2) (head_link A.s (f A.at)) in
     let walked : RestIs c.walk_rest.result (view c.args.s.size c.args.table.now) rest = let A = c.args in
-        let f = view A.s.size A.table.now in
-        subst (λ (a : ℕ). RestIs c.walk_rest.result f (parts_from A.s f A.filled (mark_of A.s (f A.at)) true (A.filled - 2) a)) c.requires.5 (c.walk_rest.ensures (mark_of A.s (f A.at))) in
+    let f = view A.s.size A.table.now in
+    subst (λ (a : ℕ). RestIs c.walk_rest.result f (parts_from A.s f A.filled (mark_of A.s (f A.at)) true (A.filled - 2) a)) c.requires.5 (c.walk_rest.ensures (mark_of A.s (f A.at))) in
     let met : RestIs (Walked.Chain c.in-Chain.rest) (view c.args.s.size c.args.table.now) rest = subst (λ (x : Walked). RestIs x (view c.args.s.size c.args.table.now) rest) c.in-Chain.is walked in
     let numbers : c.args.n + c.in-Chain.rest.bytes - c.prefix_len.result ≡ c.args.s.size - head_overhead c.args.s + c.in-Chain.rest.bytes - prefix_len c.args.s = omega (arith, c.requires.6, c.prefix_len.ensures) in
     let total : c.read_total.result ≡ total_of (view c.args.s.size c.args.table.now c.args.at) = c.read_total.ensures ∙ ap total_of (part_view c.args.s.size c.args.at c.args.table.now) in
@@ -66,10 +66,10 @@ returns-then-bytes-prefix_len c =
 pub overflow_add-result : goal.overflow_add-result
 overflow_add-result c =
     let rest : Walk = let A = c.args in
-        let f = view A.s.size A.table.now in parts_from A.s f A.filled (mark_of A.s (f A.at)) true (A.filled - 2) (head_link A.s (f A.at)) in
+    let f = view A.s.size A.table.now in parts_from A.s f A.filled (mark_of A.s (f A.at)) true (A.filled - 2) (head_link A.s (f A.at)) in
     let walked : RestIs c.walk_rest.result (view c.args.s.size c.args.table.now) rest = let A = c.args in
-        let f = view A.s.size A.table.now in
-        subst (λ (a : ℕ). RestIs c.walk_rest.result f (parts_from A.s f A.filled (mark_of A.s (f A.at)) true (A.filled - 2) a)) c.requires.5 (c.walk_rest.ensures (mark_of A.s (f A.at))) in
+    let f = view A.s.size A.table.now in
+    subst (λ (a : ℕ). RestIs c.walk_rest.result f (parts_from A.s f A.filled (mark_of A.s (f A.at)) true (A.filled - 2) a)) c.requires.5 (c.walk_rest.ensures (mark_of A.s (f A.at))) in
     let met : RestIs (Walked.Chain c.in-Chain.rest) (view c.args.s.size c.args.table.now) rest = subst (λ (x : Walked). RestIs x (view c.args.s.size c.args.table.now) rest) c.in-Chain.is walked in
     let fitting : (length rest.slots ≤ c.args.filled - 2) × (length (rest_body (view c.args.s.size c.args.table.now) rest.slots) + c.args.s.size ≤ length c.args.table.now) = rest_fits c.args.s c.args.table.now c.args.filled _ _ c.requires.3 c.requires.1 met.0 in
     let f = fitting in omega (arith, f.0, met.1, c.requires.3)
@@ -77,10 +77,10 @@ overflow_add-result c =
 pub returns-in-Refused : goal.returns-in-Refused
 returns-in-Refused c =
     let rest : Walk = let A = c.args in
-        let f = view A.s.size A.table.now in parts_from A.s f A.filled (mark_of A.s (f A.at)) true (A.filled - 2) (head_link A.s (f A.at)) in
+    let f = view A.s.size A.table.now in parts_from A.s f A.filled (mark_of A.s (f A.at)) true (A.filled - 2) (head_link A.s (f A.at)) in
     let walked : RestIs c.walk_rest.result (view c.args.s.size c.args.table.now) rest = let A = c.args in
-        let f = view A.s.size A.table.now in
-        subst (λ (a : ℕ). RestIs c.walk_rest.result f (parts_from A.s f A.filled (mark_of A.s (f A.at)) true (A.filled - 2) a)) c.requires.5 (c.walk_rest.ensures (mark_of A.s (f A.at))) in
+    let f = view A.s.size A.table.now in
+    subst (λ (a : ℕ). RestIs c.walk_rest.result f (parts_from A.s f A.filled (mark_of A.s (f A.at)) true (A.filled - 2) a)) c.requires.5 (c.walk_rest.ensures (mark_of A.s (f A.at))) in
     let A = c.args in
     later_refused A.s (view A.s.size A.table.now) A.filled A.at c.requires.4 c.in-Refused.r (subst (λ (x : Walked). RestIs x (view A.s.size A.table.now) rest) c.in-Refused.is walked)
 
@@ -88,10 +88,10 @@ pub returns-else-bytes-prefix_len : goal.returns-else-bytes-prefix_len
 returns-else-bytes-prefix_len c =
     let inside : c.args.at * c.args.s.size + c.args.s.size ≤ length c.args.table.now = within _ _ c.args.filled _ c.requires.2 c.requires.1 in
     let rest : Walk = let A = c.args in
-        let f = view A.s.size A.table.now in parts_from A.s f A.filled (mark_of A.s (f A.at)) true (A.filled - 2) (head_link A.s (f A.at)) in
+    let f = view A.s.size A.table.now in parts_from A.s f A.filled (mark_of A.s (f A.at)) true (A.filled - 2) (head_link A.s (f A.at)) in
     let walked : RestIs c.walk_rest.result (view c.args.s.size c.args.table.now) rest = let A = c.args in
-        let f = view A.s.size A.table.now in
-        subst (λ (a : ℕ). RestIs c.walk_rest.result f (parts_from A.s f A.filled (mark_of A.s (f A.at)) true (A.filled - 2) a)) c.requires.5 (c.walk_rest.ensures (mark_of A.s (f A.at))) in
+    let f = view A.s.size A.table.now in
+    subst (λ (a : ℕ). RestIs c.walk_rest.result f (parts_from A.s f A.filled (mark_of A.s (f A.at)) true (A.filled - 2) a)) c.requires.5 (c.walk_rest.ensures (mark_of A.s (f A.at))) in
     let met : RestIs (Walked.Chain c.in-Chain.rest) (view c.args.s.size c.args.table.now) rest = subst (λ (x : Walked). RestIs x (view c.args.s.size c.args.table.now) rest) c.in-Chain.is walked in
     let numbers : c.args.n + c.in-Chain.rest.bytes - c.prefix_len.result ≡ c.args.s.size - head_overhead c.args.s + c.in-Chain.rest.bytes - prefix_len c.args.s = omega (arith, c.requires.6, c.prefix_len.ensures) in
     let total : c.read_total.result ≡ total_of (view c.args.s.size c.args.table.now c.args.at) = c.read_total.ensures ∙ ap total_of (part_view c.args.s.size c.args.at c.args.table.now) in

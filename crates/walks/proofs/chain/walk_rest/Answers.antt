@@ -3,7 +3,7 @@ use lib.ListN.{length}
 use native.Mathlib.Omega.{arith}
 use mathlib.Core.Bool.{Bool, true}
 use mathlib.Core.Path.{◌≡◌, sym, ap, ◌∙◌}
-use Prim.Native.Nat.{◌-◌, ◌*◌, ◌+◌, ◌≤◌, ◌<◌}
+use Prim.Native.Nat.{◌*◌, ◌+◌, ◌≤◌, ◌<◌}
 use Rattle.laws.proofs.Views.{length_view, within, part_view, lent_length}
 use Rattle.definition.specs.Chains.{part, later_parse}
 use Rattle.definition.specs.declared.Parsed.{Parsed}
@@ -59,14 +59,14 @@ pub returns-in-Refused : goal.returns-in-Refused
 returns-in-Refused c =
     let above_zero : 0 < c.loop-parts.at = omega (arith, c.if-at-eq0.false) in
     let met : (mark : Bool) → parse_of c.read_next_part.result ≡ later_parse c.args.s mark (eqb c.loop-parts.parts 0) (view c.args.s.size c.args.table.now c.loop-parts.at) = λ mark. c.read_next_part.ensures mark (eqb c.loop-parts.parts 0)
-        ∙ ap (later_parse c.args.s mark (eqb c.loop-parts.parts 0)) (part_view c.args.s.size c.loop-parts.at c.args.table.now) in
+    ∙ ap (later_parse c.args.s mark (eqb c.loop-parts.parts 0)) (part_view c.args.s.size c.loop-parts.at c.args.table.now) in
     λ mark. bad_part _ _ _ _ mark _ _ _ (c.loop-parts.invariant.2 mark) c.loop-parts-test.true above_zero c.if-at-filled.false c.in-Refused.r (sym (ap parse_of c.in-Refused.is) ∙ met mark)
 
 pub overflow_add-bytes : goal.overflow_add-bytes
 overflow_add-bytes c =
     let inside : c.loop-parts.at * c.args.s.size + c.args.s.size ≤ length c.args.table.now = within _ _ c.args.filled _ c.if-at-filled.false c.requires.1 in
     let met : (mark : Bool) → parse_of c.read_next_part.result ≡ later_parse c.args.s mark (eqb c.loop-parts.parts 0) (view c.args.s.size c.args.table.now c.loop-parts.at) = λ mark. c.read_next_part.ensures mark (eqb c.loop-parts.parts 0)
-        ∙ ap (later_parse c.args.s mark (eqb c.loop-parts.parts 0)) (part_view c.args.s.size c.loop-parts.at c.args.table.now) in
+    ∙ ap (later_parse c.args.s mark (eqb c.loop-parts.parts 0)) (part_view c.args.s.size c.loop-parts.at c.args.table.now) in
     let continuation : (mark : Bool) → part (Continuation c.in-Continuation.next) c.in-Part.n ≡ later_parse c.args.s mark (eqb c.loop-parts.parts 0) (view c.args.s.size c.args.table.now c.loop-parts.at) = λ mark. sym (ap parse_of (c.in-Part.is ∙ ap (λ (k : PartKind). Parsed.Part k c.in-Part.n) c.in-Continuation.is)) ∙ met mark in
     omega (arith, inside, c.loop-parts.invariant.1, held_most _ true _ _ _ _ (continuation true), within c.args.s.size c.loop-parts.parts c.args.filled _ (omega (arith, c.loop-parts-test.true)) c.requires.1)
 
@@ -77,7 +77,7 @@ overflow_add-result c =
 pub overflow_add-result-in-Last : goal.overflow_add-result-in-Last
 overflow_add-result-in-Last c =
     let met : (mark : Bool) → parse_of c.read_next_part.result ≡ later_parse c.args.s mark (eqb c.loop-parts.parts 0) (view c.args.s.size c.args.table.now c.loop-parts.at) = λ mark. c.read_next_part.ensures mark (eqb c.loop-parts.parts 0)
-        ∙ ap (later_parse c.args.s mark (eqb c.loop-parts.parts 0)) (part_view c.args.s.size c.loop-parts.at c.args.table.now) in
+    ∙ ap (later_parse c.args.s mark (eqb c.loop-parts.parts 0)) (part_view c.args.s.size c.loop-parts.at c.args.table.now) in
     let ending : (mark : Bool) → part (Last c.in-Last.field-0) c.in-Part.n ≡ later_parse c.args.s mark (eqb c.loop-parts.parts 0) (view c.args.s.size c.args.table.now c.loop-parts.at) = λ mark. sym (ap parse_of (c.in-Part.is ∙ ap (λ (k : PartKind). Parsed.Part k c.in-Part.n) c.in-Last.is)) ∙ met mark in
     omega (arith, c.loop-parts.invariant.1, held_most _ true _ _ _ _ (ending true), within c.args.s.size c.loop-parts.parts c.args.filled _ (omega (arith, c.loop-parts-test.true)) c.requires.1)
 
@@ -86,7 +86,7 @@ returns-in-Last c =
     let inside : c.loop-parts.at * c.args.s.size + c.args.s.size ≤ length c.args.table.now = within _ _ c.args.filled _ c.if-at-filled.false c.requires.1 in
     let above_zero : 0 < c.loop-parts.at = omega (arith, c.if-at-eq0.false) in
     let met : (mark : Bool) → parse_of c.read_next_part.result ≡ later_parse c.args.s mark (eqb c.loop-parts.parts 0) (view c.args.s.size c.args.table.now c.loop-parts.at) = λ mark. c.read_next_part.ensures mark (eqb c.loop-parts.parts 0)
-        ∙ ap (later_parse c.args.s mark (eqb c.loop-parts.parts 0)) (part_view c.args.s.size c.loop-parts.at c.args.table.now) in
+    ∙ ap (later_parse c.args.s mark (eqb c.loop-parts.parts 0)) (part_view c.args.s.size c.loop-parts.at c.args.table.now) in
     let ending : (mark : Bool) → part (Last c.in-Last.field-0) c.in-Part.n ≡ later_parse c.args.s mark (eqb c.loop-parts.parts 0) (view c.args.s.size c.args.table.now c.loop-parts.at) = λ mark. sym (ap parse_of (c.in-Part.is ∙ ap (λ (k : PartKind). Parsed.Part k c.in-Part.n) c.in-Last.is)) ∙ met mark in
     let z = sizes c.args.s c.requires.0 in
     λ mark. last _ _ _ _ mark _ _ _ (c.loop-parts.invariant.2 mark) c.loop-parts-test.true above_zero c.if-at-filled.false _ _ (omega arith) (length_view c.args.s.size c.loop-parts.at c.args.table.now inside) (ending mark)
@@ -95,7 +95,7 @@ pub returns-in-Head : goal.returns-in-Head
 returns-in-Head c =
     let above_zero : 0 < c.loop-parts.at = omega (arith, c.if-at-eq0.false) in
     let met : (mark : Bool) → parse_of c.read_next_part.result ≡ later_parse c.args.s mark (eqb c.loop-parts.parts 0) (view c.args.s.size c.args.table.now c.loop-parts.at) = λ mark. c.read_next_part.ensures mark (eqb c.loop-parts.parts 0)
-        ∙ ap (later_parse c.args.s mark (eqb c.loop-parts.parts 0)) (part_view c.args.s.size c.loop-parts.at c.args.table.now) in
+    ∙ ap (later_parse c.args.s mark (eqb c.loop-parts.parts 0)) (part_view c.args.s.size c.loop-parts.at c.args.table.now) in
     λ mark. no_head _ _ _ _ mark _ _ _ (c.loop-parts.invariant.2 mark) c.loop-parts-test.true above_zero c.if-at-filled.false _ _ (sym (ap parse_of (c.in-Part.is ∙ ap (λ (k : PartKind). Parsed.Part k c.in-Part.n) c.in-Head.is)) ∙ met mark)
 
 pub overflow_add-parts : goal.overflow_add-parts
@@ -111,7 +111,7 @@ loop-parts-preserved c =
     let inside : c.loop-parts.at * c.args.s.size + c.args.s.size ≤ length c.args.table.now = within _ _ c.args.filled _ c.if-at-filled.false c.requires.1 in
     let above_zero : 0 < c.loop-parts.at = omega (arith, c.if-at-eq0.false) in
     let met : (mark : Bool) → parse_of c.read_next_part.result ≡ later_parse c.args.s mark (eqb c.loop-parts.parts 0) (view c.args.s.size c.args.table.now c.loop-parts.at) = λ mark. c.read_next_part.ensures mark (eqb c.loop-parts.parts 0)
-        ∙ ap (later_parse c.args.s mark (eqb c.loop-parts.parts 0)) (part_view c.args.s.size c.loop-parts.at c.args.table.now) in
+    ∙ ap (later_parse c.args.s mark (eqb c.loop-parts.parts 0)) (part_view c.args.s.size c.loop-parts.at c.args.table.now) in
     let continuation : (mark : Bool) → part (Continuation c.in-Continuation.next) c.in-Part.n ≡ later_parse c.args.s mark (eqb c.loop-parts.parts 0) (view c.args.s.size c.args.table.now c.loop-parts.at) = λ mark. sym (ap parse_of (c.in-Part.is ∙ ap (λ (k : PartKind). Parsed.Part k c.in-Part.n) c.in-Continuation.is)) ∙ met mark in
     let at = length_view c.args.s.size c.loop-parts.at c.args.table.now inside in (
       omega (arith, c.loop-parts-test.true),

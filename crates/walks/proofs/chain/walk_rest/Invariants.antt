@@ -1,6 +1,6 @@
 use mathlib.Core.Bool.{Bool}
 use Prim.Native.Nat.{◌-◌, ◌*◌, ◌≤◌}
-use Rattle.walks.proofs.WalkLaws.{Tallied, start}
+use Rattle.walks.proofs.WalkLaws.{Tallied}
 use Rattle.definition.specs.Slots.{view}
 use Rattle.walks.proofs.chain.walk_rest.Given as goal
 

@@ -1,7 +1,7 @@
 use lib.ListN.{length}
 use native.Mathlib.Omega.{arith}
 use mathlib.Core.Path.{sym, ap, ◌∙◌}
-use Prim.Native.Nat.{◌-◌, ◌*◌, ◌+◌, ◌≤◌}
+use Prim.Native.Nat.{◌*◌, ◌+◌, ◌≤◌}
 use Rattle.walks.proofs.FreeLaws.{start, ends, limit, above, unmarked, turn}
 use Rattle.laws.proofs.Sizes.{sizes}
 use Rattle.laws.proofs.Views.{within, part_view, lent_length}
