@@ -1,17 +1,13 @@
 use lib.ListN.{length}
 use native.Mathlib.Omega.{arith}
 use mathlib.Core.List.{List}
-use mathlib.Core.Path.{◌≡◌, refl, ap, ◌∙◌}
+use mathlib.Core.Path.{◌≡◌, ap, ◌∙◌}
 use Prim.Native.Nat.{ℕ, ◌+◌, ◌*◌, ◌≤◌}
 use Rattle.contents.proofs.CopyLaws.{done, next_part_lem, fits, less, turn}
 use Rattle.contents.specs.Spans.{part_span, Copying}
-use Rattle.laws.proofs.Views.{part_view, lent_length}
+use Rattle.laws.proofs.Views.{part_view}
 use Rattle.definition.specs.Slots.{view}
 use Rattle.contents.proofs.copy_rest.Goals as goal
-
-pub loop-left-init : goal.loop-left-init
-loop-left-init c =
-    (refl, λ T g. g)
 
 pub overflow_mul-a : goal.overflow_mul-a
 overflow_mul-a c =
@@ -25,25 +21,11 @@ overflow_add-z c =
     let inside : c.loop-left.at * c.args.s.size + c.args.s.size ≤ length c.args.table.now = (next_part_lem _ _ _ _ _ _ _ _ c.requires.0 (copying c.requires.1.0 c.requires.1.1) c.loop-left-test.true).slot in
     omega (arith, inside)
 
-pub slice_bounds-part_span-count : goal.slice_bounds-part_span-count
-slice_bounds-part_span-count c =
-    omega arith
-
 pub slice_bounds-part_span-end : goal.slice_bounds-part_span-end
 slice_bounds-part_span-end c =
     let copying : (T : List ℕ) → Copying c.args.s c.args.table.now T c.args.start c.args.from c.args.n c.args.out.now c.args.to → Copying c.args.s c.args.table.now T c.loop-left.at c.loop-left.skip c.loop-left.left c.loop-left.out c.loop-left.pos = λ T g. c.loop-left.invariant.1 T g in
     let inside : c.loop-left.at * c.args.s.size + c.args.s.size ≤ length c.args.table.now = (next_part_lem _ _ _ _ _ _ _ _ c.requires.0 (copying c.requires.1.0 c.requires.1.1) c.loop-left-test.true).slot in
     omega (arith, inside)
-
-pub part_span-p-requires : goal.part_span-p-requires
-part_span-p-requires c =
-    let copying : (T : List ℕ) → Copying c.args.s c.args.table.now T c.args.start c.args.from c.args.n c.args.out.now c.args.to → Copying c.args.s c.args.table.now T c.loop-left.at c.loop-left.skip c.loop-left.left c.loop-left.out c.loop-left.pos = λ T g. c.loop-left.invariant.1 T g in
-    let inside : c.loop-left.at * c.args.s.size + c.args.s.size ≤ length c.args.table.now = (next_part_lem _ _ _ _ _ _ _ _ c.requires.0 (copying c.requires.1.0 c.requires.1.1) c.loop-left-test.true).slot in
-    (c.requires.0, lent_length c.args.s.size c.loop-left.at c.args.table.now inside)
-
-pub overflow_sub-p : goal.overflow_sub-p
-overflow_sub-p c =
-    omega (arith, c.smaller-k.ensures)
 
 pub overflow_add-a : goal.overflow_add-a
 overflow_add-a c =
@@ -65,20 +47,6 @@ copy-requires c =
     let span : c.part_span-p.result ≡ part_span c.args.s (view c.args.s.size c.args.table.now c.loop-left.at) = c.part_span-p.ensures ∙ ap (part_span c.args.s) (part_view c.args.s.size c.loop-left.at c.args.table.now) in
     let within : (c.loop-left.at * c.args.s.size + c.part_span-p.result.start + c.smaller-k.result + c.smaller-c.result ≤ length c.args.table.now) × (c.loop-left.pos + c.smaller-c.result ≤ length c.loop-left.out) × (c.smaller-k.result ≤ c.loop-left.skip) × (c.smaller-c.result ≤ c.loop-left.left) = fits _ _ _ _ _ _ _ _ c.requires.0 (copying c.requires.1.0 c.requires.1.1) c.loop-left-test.true _ span _ _ c.smaller-k.ensures c.smaller-c.ensures in
     (omega (arith, within.0), omega (arith, within.1))
-
-pub overflow_sub-skip : goal.overflow_sub-skip
-overflow_sub-skip c =
-    let copying : (T : List ℕ) → Copying c.args.s c.args.table.now T c.args.start c.args.from c.args.n c.args.out.now c.args.to → Copying c.args.s c.args.table.now T c.loop-left.at c.loop-left.skip c.loop-left.left c.loop-left.out c.loop-left.pos = λ T g. c.loop-left.invariant.1 T g in
-    let span : c.part_span-p.result ≡ part_span c.args.s (view c.args.s.size c.args.table.now c.loop-left.at) = c.part_span-p.ensures ∙ ap (part_span c.args.s) (part_view c.args.s.size c.loop-left.at c.args.table.now) in
-    let within : (c.loop-left.at * c.args.s.size + c.part_span-p.result.start + c.smaller-k.result + c.smaller-c.result ≤ length c.args.table.now) × (c.loop-left.pos + c.smaller-c.result ≤ length c.loop-left.out) × (c.smaller-k.result ≤ c.loop-left.skip) × (c.smaller-c.result ≤ c.loop-left.left) = fits _ _ _ _ _ _ _ _ c.requires.0 (copying c.requires.1.0 c.requires.1.1) c.loop-left-test.true _ span _ _ c.smaller-k.ensures c.smaller-c.ensures in
-    omega (arith, within.2)
-
-pub overflow_sub-left : goal.overflow_sub-left
-overflow_sub-left c =
-    let copying : (T : List ℕ) → Copying c.args.s c.args.table.now T c.args.start c.args.from c.args.n c.args.out.now c.args.to → Copying c.args.s c.args.table.now T c.loop-left.at c.loop-left.skip c.loop-left.left c.loop-left.out c.loop-left.pos = λ T g. c.loop-left.invariant.1 T g in
-    let span : c.part_span-p.result ≡ part_span c.args.s (view c.args.s.size c.args.table.now c.loop-left.at) = c.part_span-p.ensures ∙ ap (part_span c.args.s) (part_view c.args.s.size c.loop-left.at c.args.table.now) in
-    let within : (c.loop-left.at * c.args.s.size + c.part_span-p.result.start + c.smaller-k.result + c.smaller-c.result ≤ length c.args.table.now) × (c.loop-left.pos + c.smaller-c.result ≤ length c.loop-left.out) × (c.smaller-k.result ≤ c.loop-left.skip) × (c.smaller-c.result ≤ c.loop-left.left) = fits _ _ _ _ _ _ _ _ c.requires.0 (copying c.requires.1.0 c.requires.1.1) c.loop-left-test.true _ span _ _ c.smaller-k.ensures c.smaller-c.ensures in
-    omega (arith, within.3)
 
 pub overflow_add-pos : goal.overflow_add-pos
 overflow_add-pos c =

@@ -1,12 +1,9 @@
 use mathlib.Core.List.{List}
-use mathlib.Core.Path.{◌≡◌, refl, ◌∙◌}
+use mathlib.Core.Path.{◌≡◌, ◌∙◌}
 use Prim.Native.Nat.{ℕ}
 use lib.ListN.{length}
 use Rattle.writes.proofs.Clearing.{Clearing, Turned, slot_asks, header_fits, clear_turn, clear_done, clear_header}
 use Rattle.writes.proofs.clear_chain.Goals as goal
-
-pub loop-slot-init : goal.loop-slot-init
-loop-slot-init c = (refl, λ old free g. record { old = old; free = free; freeing = g; left = refl })
 
 pub next_part-next-requires : goal.next_part-next-requires
 next_part-next-requires c =

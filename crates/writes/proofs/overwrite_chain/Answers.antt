@@ -14,26 +14,11 @@ use Rattle.writes.specs.declared.Taken.{Taken}
 use Rattle.writes.specs.Ready.{Ready}
 use Rattle.writes.proofs.overwrite_chain.Goals as goal
 
-pub overflow_add-len : goal.overflow_add-len
-overflow_add-len c = omega arith
-
 pub next_free-first-requires : goal.next_free-first-requires
 next_free-first-requires c = let p = c.requires in begin_asks _ _ _ _ _ _ _ _ p.0 p.1.2
 
 pub loop-pos-init : goal.loop-pos-init
 loop-pos-init c = (refl, λ h old free e r. begin _ _ _ _ old free _ h c.requires.0 r _ _ _ e)
-
-pub overflow_sub-len : goal.overflow_sub-len
-overflow_sub-len c =
-    let body : List ℕ = c.args.prefix.now ++ c.args.content.now in
-    let long : length body ≡ length c.args.prefix.now + length c.args.content.now = length-append c.args.prefix.now c.args.content.now in
-    let ReadyAt : List ℕ → List ℕ → Type 0 = λ old free. Ready c.args.s c.args.same body c.args.table.now old free c.args.at c.args.h in
-    let promised : List ℕ → List ℕ → List ℕ = λ old free. store c.args.s.size c.args.table.now (effect c.args.s c.args.mark (length c.args.content.now) (pieces c.args.s body) old free c.args.h.filled) in
-    let Left : List ℕ → List ℕ → ℕ → Taken → Type 0 = λ T t pos to. Going c.args.s c.args.mark (length c.args.content.now) c.args.same body T t pos to in
-    let LeftAt : List ℕ → Type 0 = λ T. Left T c.loop-pos.table c.loop-pos.pos c.loop-pos.to in
-    let going : (old free : List ℕ) → ReadyAt old free → LeftAt (promised old free) = λ old free r. c.loop-pos.invariant.1 c.args.h old free c.next_free-first.ensures r in
-    let here : (T : List ℕ) × LeftAt T = let p = c.requires.1 in (_, going p.0 p.1 p.2) in
-    omega (arith, here.1.here, long)
 
 pub overflow_sub-s : goal.overflow_sub-s
 overflow_sub-s c = let z = sizes _ c.requires.0.good in omega arith

@@ -4,24 +4,16 @@ use native.Mathlib.Omega.{arith}
 use mathlib.Core.Bool.{Bool, true}
 use mathlib.Core.Path.{◌≡◌, sym, ap, ◌∙◌}
 use Prim.Native.Nat.{◌*◌, ◌+◌, ◌≤◌, ◌<◌}
-use Rattle.laws.proofs.Views.{length_view, within, part_view, lent_length}
+use Rattle.laws.proofs.Views.{length_view, within, part_view}
 use Rattle.definition.specs.Chains.{part, later_parse}
 use Rattle.definition.specs.declared.Parsed.{Parsed}
 use Rattle.definition.specs.declared.PartKind.TheVariants.{Continuation, Last}
 use Rattle.definition.specs.declared.PartKind.{PartKind}
-use Rattle.walks.proofs.WalkLaws.{held_most, held_more, start, limit, unlinked, above, bad_part, no_head, last, turn}
+use Rattle.walks.proofs.WalkLaws.{held_most, held_more, limit, unlinked, above, bad_part, no_head, last, turn}
 use Rattle.definition.specs.Answers.{parse_of}
 use Rattle.laws.proofs.Sizes.{sizes}
 use Rattle.definition.specs.Slots.{view}
 use Rattle.walks.proofs.chain.walk_rest.Goals as goal
-
-pub loop-parts-init : goal.loop-parts-init
-loop-parts-init c =
-    (omega arith, omega arith, λ mark. start _ _ _ mark _)
-
-pub overflow_sub-filled : goal.overflow_sub-filled
-overflow_sub-filled c =
-    omega (arith, c.requires.2)
 
 pub returns-then-at-eq0 : goal.returns-then-at-eq0
 returns-then-at-eq0 c =
@@ -30,30 +22,6 @@ returns-then-at-eq0 c =
 pub returns-then-at-filled : goal.returns-then-at-filled
 returns-then-at-filled c =
     λ mark. above _ _ _ _ mark _ _ _ (c.loop-parts.invariant.2 mark) c.loop-parts-test.true c.if-at-filled.true
-
-pub overflow_mul-a : goal.overflow_mul-a
-overflow_mul-a c =
-    let inside : c.loop-parts.at * c.args.s.size + c.args.s.size ≤ length c.args.table.now = within _ _ c.args.filled _ c.if-at-filled.false c.requires.1 in
-    omega (arith, inside)
-
-pub overflow_add-z : goal.overflow_add-z
-overflow_add-z c =
-    let inside : c.loop-parts.at * c.args.s.size + c.args.s.size ≤ length c.args.table.now = within _ _ c.args.filled _ c.if-at-filled.false c.requires.1 in
-    omega (arith, inside)
-
-pub slice_bounds-read_next_part-count : goal.slice_bounds-read_next_part-count
-slice_bounds-read_next_part-count c =
-    omega arith
-
-pub slice_bounds-read_next_part-end : goal.slice_bounds-read_next_part-end
-slice_bounds-read_next_part-end c =
-    let inside : c.loop-parts.at * c.args.s.size + c.args.s.size ≤ length c.args.table.now = within _ _ c.args.filled _ c.if-at-filled.false c.requires.1 in
-    omega (arith, inside)
-
-pub read_next_part-requires : goal.read_next_part-requires
-read_next_part-requires c =
-    let inside : c.loop-parts.at * c.args.s.size + c.args.s.size ≤ length c.args.table.now = within _ _ c.args.filled _ c.if-at-filled.false c.requires.1 in
-    (c.requires.0, lent_length c.args.s.size c.loop-parts.at c.args.table.now inside)
 
 pub returns-in-Refused : goal.returns-in-Refused
 returns-in-Refused c =
@@ -69,10 +37,6 @@ overflow_add-bytes c =
     ∙ ap (later_parse c.args.s mark (eqb c.loop-parts.parts 0)) (part_view c.args.s.size c.loop-parts.at c.args.table.now) in
     let continuation : (mark : Bool) → part (Continuation c.in-Continuation.next) c.in-Part.n ≡ later_parse c.args.s mark (eqb c.loop-parts.parts 0) (view c.args.s.size c.args.table.now c.loop-parts.at) = λ mark. sym (ap parse_of (c.in-Part.is ∙ ap (λ (k : PartKind). Parsed.Part k c.in-Part.n) c.in-Continuation.is)) ∙ met mark in
     omega (arith, inside, c.loop-parts.invariant.1, held_most _ true _ _ _ _ (continuation true), within c.args.s.size c.loop-parts.parts c.args.filled _ (omega (arith, c.loop-parts-test.true)) c.requires.1)
-
-pub overflow_add-result : goal.overflow_add-result
-overflow_add-result c =
-    omega (arith, c.loop-parts-test.true)
 
 pub overflow_add-result-in-Last : goal.overflow_add-result-in-Last
 overflow_add-result-in-Last c =
@@ -97,14 +61,6 @@ returns-in-Head c =
     let met : (mark : Bool) → parse_of c.read_next_part.result ≡ later_parse c.args.s mark (eqb c.loop-parts.parts 0) (view c.args.s.size c.args.table.now c.loop-parts.at) = λ mark. c.read_next_part.ensures mark (eqb c.loop-parts.parts 0)
     ∙ ap (later_parse c.args.s mark (eqb c.loop-parts.parts 0)) (part_view c.args.s.size c.loop-parts.at c.args.table.now) in
     λ mark. no_head _ _ _ _ mark _ _ _ (c.loop-parts.invariant.2 mark) c.loop-parts-test.true above_zero c.if-at-filled.false _ _ (sym (ap parse_of (c.in-Part.is ∙ ap (λ (k : PartKind). Parsed.Part k c.in-Part.n) c.in-Head.is)) ∙ met mark)
-
-pub overflow_add-parts : goal.overflow_add-parts
-overflow_add-parts c =
-    omega (arith, c.loop-parts-test.true)
-
-pub loop-parts-smaller : goal.loop-parts-smaller
-loop-parts-smaller c =
-    omega (arith, c.loop-parts-test.true)
 
 pub loop-parts-preserved : goal.loop-parts-preserved
 loop-parts-preserved c =

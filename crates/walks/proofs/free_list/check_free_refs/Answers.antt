@@ -2,19 +2,11 @@ use lib.ListN.{length}
 use native.Mathlib.Omega.{arith}
 use mathlib.Core.Path.{sym, ap, ◌∙◌}
 use Prim.Native.Nat.{◌*◌, ◌+◌, ◌≤◌}
-use Rattle.walks.proofs.FreeLaws.{start, ends, limit, above, unmarked, turn}
+use Rattle.walks.proofs.FreeLaws.{ends, limit, above, unmarked, turn}
 use Rattle.laws.proofs.Sizes.{sizes}
 use Rattle.laws.proofs.Views.{within, part_view, lent_length}
 use Rattle.definition.specs.Slots.{is_free, link_of}
 use Rattle.walks.proofs.free_list.check_free_refs.Goals as goal
-
-pub loop-at-init : goal.loop-at-init
-loop-at-init c =
-    start _ _ _
-
-pub overflow_sub-h : goal.overflow_sub-h
-overflow_sub-h c =
-    omega (arith, c.requires.2)
 
 pub returns-then-n-h : goal.returns-then-n-h
 returns-then-n-h c =
@@ -23,25 +15,6 @@ returns-then-n-h c =
 pub returns-then-at-h : goal.returns-then-at-h
 returns-then-at-h c =
     above _ _ _ _ _ c.loop-at.invariant c.loop-at-test.true c.if-n-h.false c.if-at-h.true
-
-pub overflow_mul-a : goal.overflow_mul-a
-overflow_mul-a c =
-    let inside : c.loop-at.at * c.args.s.size + c.args.s.size ≤ length c.args.table.now = within _ _ c.args.h.filled _ c.if-at-h.false c.requires.1 in
-    omega (arith, inside)
-
-pub overflow_add-z : goal.overflow_add-z
-overflow_add-z c =
-    let inside : c.loop-at.at * c.args.s.size + c.args.s.size ≤ length c.args.table.now = within _ _ c.args.h.filled _ c.if-at-h.false c.requires.1 in
-    omega (arith, inside)
-
-pub slice_bounds-is_free-count : goal.slice_bounds-is_free-count
-slice_bounds-is_free-count c =
-    omega arith
-
-pub slice_bounds-is_free-end : goal.slice_bounds-is_free-end
-slice_bounds-is_free-end c =
-    let inside : c.loop-at.at * c.args.s.size + c.args.s.size ≤ length c.args.table.now = within _ _ c.args.h.filled _ c.if-at-h.false c.requires.1 in
-    omega (arith, inside)
 
 pub is_free-requires : goal.is_free-requires
 is_free-requires c =
@@ -53,27 +26,10 @@ returns-then-not-is_free c =
     unmarked _ _ _ _ _ c.loop-at.invariant c.loop-at-test.true c.if-n-h.false
     (sym (ap is_free (part_view c.args.s.size c.loop-at.at c.args.table.now)) ∙ sym c.is_free.ensures ∙ c.if-not-is_free.true)
 
-pub slice_bounds-read_next-count : goal.slice_bounds-read_next-count
-slice_bounds-read_next-count c =
-    omega arith
-
-pub slice_bounds-read_next-end : goal.slice_bounds-read_next-end
-slice_bounds-read_next-end c =
-    let inside : c.loop-at.at * c.args.s.size + c.args.s.size ≤ length c.args.table.now = within _ _ c.args.h.filled _ c.if-at-h.false c.requires.1 in
-    omega (arith, inside)
-
 pub read_next-at-requires : goal.read_next-at-requires
 read_next-at-requires c =
     let inside : c.loop-at.at * c.args.s.size + c.args.s.size ≤ length c.args.table.now = within _ _ c.args.h.filled _ c.if-at-h.false c.requires.1 in
     let z = sizes c.args.s c.requires.0 in omega (arith, lent_length c.args.s.size c.loop-at.at c.args.table.now inside)
-
-pub overflow_add-n : goal.overflow_add-n
-overflow_add-n c =
-    omega (arith, c.loop-at.invariant.most)
-
-pub loop-at-smaller : goal.loop-at-smaller
-loop-at-smaller c =
-    omega (arith, c.loop-at.invariant.most, c.if-n-h.false)
 
 pub loop-at-preserved : goal.loop-at-preserved
 loop-at-preserved c =
