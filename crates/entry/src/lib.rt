@@ -1,6 +1,5 @@
-// The reader of one slot: the slot and the place of the next byte, in one struct, as Rust's EntryRef. The struct holds a
-// reference, so each function over it is proved by hand; each takes it apart and leaves the work to a function on the plain
-// slice and number. `u64_at` has plain parameters: whoever calls it needs no proof by hand.
+// The reader of one slot: the slot and the place of the next byte, in one struct, as Rust's EntryRef. Each function over it takes
+// it apart and leaves the work to a function on the plain slice and number. `u64_at` has plain parameters, and is what others call.
 #![tactic(auto)]
 
 ghost use Rattle.std.specs.Prelude.{◌≡◌, ◌+◌, ◌≤◌, length};
