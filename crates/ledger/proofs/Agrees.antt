@@ -99,7 +99,7 @@ pub ledger_after : (s : Settings) (f g : View) (cap hd : ℕ) (new free : List �
     → Rewritten s f g cap hd new free G → chain_on s g hd new ≡ c → ledger_view s g ≡ with_chain (ledger_view s f) hd c free G
 unfolding ledger_view with_chain members_of
 ledger_after s f g cap hd new free G c k r e =
-    λ i. record { chains = fun_ext each i; free = ap members_of r.FreeIs i; filled = r.filled_is i }
+    λ i. record { chains = fun_ext each i; free = ap members_of r.free_is i; filled = r.filled_is i }
   where
     away : (h : ℕ) → h ≢ hd → chain_on s g h (chain_at s g h) ≡ cond (eqb h hd) c (chain_on s f h (chain_at s f h))
     away h ne =

@@ -142,7 +142,7 @@ module _ (s : Settings) (f g : View) (cap h c : ℕ) (k : SoundView s f cap) (d 
       record {
         sound = parted_sound s g _ _ recount_parted hi last cap o.settings (omega (arith, header.1, o.fits));
         filled_is = header.1;
-        FreeIs = parted_free_list s g _ _ recount_parted hi last;
+        free_is = parted_free_list s g _ _ recount_parted hi last;
         chains_are = λ j. parted_chain_at s g _ _ recount_parted hi last j ∙ set_itself j;
         others_stay = away;
       }

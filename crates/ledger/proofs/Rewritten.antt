@@ -35,7 +35,7 @@ use Rattle.ledger.proofs.SoundTables.{sound_open, sound_sizes, sound_last, sound
 pub record Rewritten (s : Settings) (f g : View) (cap hd : ℕ) (new free : List ℕ) (G : ℕ) : Type 0 where
   pub sound : SoundView s g cap
   pub filled_is : filled g ≡ G
-  pub FreeIs : free_list g ≡ some free
+  pub free_is : free_list g ≡ some free
   pub chains_are : (h : ℕ) → chain_at s g h ≡ set_at (chain_at s f) hd new h
   pub others_stay : (h : ℕ) → h ≢ hd → Same f g (chain_at s f h)
 
@@ -65,7 +65,7 @@ module _ (s : Settings) (f : View) (cap : ℕ) (k : SoundView s f cap) (bound : 
       record {
         sound = parted_sound s g _ _ w hi hdr.0 cap (sound_open s f cap k).settings (omega (arith, hdr.1));
         filled_is = hdr.1;
-        FreeIs = parted_free_list s g _ _ w hi hdr.0;
+        free_is = parted_free_list s g _ _ w hi hdr.0;
         chains_are = parted_chain_at s g _ _ w hi hdr.0;
         others_stay = λ h ne i m.
             unmoved v hd mark total ps hi small i (chain_members v h i m).0

@@ -27,7 +27,7 @@ pub tight : {s : Settings} (p q : Performed s) → call_of p ≡ call_of q → s
 tight {s} p q c t = performed_is p ∙ ap₂ (run s) c t ∙ sym (performed_is q)
 
 -- the parts r and q that two fixed reads hand back, the table lent being one and the keys of the same bytes: one block of memory, one place
--- in it, the same bytes and so as many. What else a reference has is its name in the proofs, which no program sees
+-- in it, the same bytes and so as many: all that a part lent by `&` has
 pub same_part : (s : Settings) (table : Lent) (h : ℕ) (checked : Bool) (κ μ : Lfts 2) (key other r q : Lent) → key.now ≡ other.now
     → read-fixed-code.Post κ (table, (s, (h, (checked, (key, tt))))) r (table, (s, (h, (checked, (key, tt)))))
     → read-fixed-code.Post μ (table, (s, (h, (checked, (other, tt))))) q (table, (s, (h, (checked, (other, tt))))) → (r.ref_ptr ≡ q.ref_ptr) × (r.now ≡ q.now)
