@@ -1,5 +1,5 @@
-// The checks of the calls, a stage each. They take the table as `&[u8]`, so that a refused call has nothing to write with.
-// Here those that several calls share: the table (1, 2, 3), the key (4), a record (1 to 4, 7 to 10).
+// The checks of the calls, a stage each, over a table that passed tests 1, 2 and 3. None can write: a refused call has nothing to write with.
+// Here those that several calls share: the key (4), a record (4, 7 to 10).
 #![tactic(auto)]
 
 pub mod room;
@@ -8,72 +8,40 @@ pub mod writing;
 
 ghost use Rattle.std.specs.Prelude.{◌≡◌, ◌&&◌, not, eqb, length};
 ghost use Rattle.definition.specs.Settings.{hash_bytes};
-ghost use Rattle.definition.specs.Tests.{refuse};
-ghost use Rattle.definition.specs.Calls.{checked_key_test, checked_key};
-ghost use Rattle.checks.specs.Stages.{OpenedIs, RecordIs};
+ghost use Rattle.slots.specs.Keys.{lent_key};
+ghost use Rattle.checks.specs.Stages.{KeyIs, RecordIs};
 
-use definition::{Header, Refusal, Settings};
-use slots::header::{header_bad, read_header};
-use slots::settings::settings_bad;
-use walks::Walked;
+use definition::{KEY_SIZE, Refusal, Settings};
+use reader::Table;
+use walks::Extent;
 use walks::chain::check_chain;
-
-// What tests 1, 2 and 3 leave of a table: its header.
-#[derive(Clone, Copy)]
-pub enum Opened {
-    Table(Header),
-    Refused(Refusal),
-}
-
-// Tests 1, 2 and 3: settings, capacity, header.
-pub fn check_table(table: &[u8], s: Settings) -> Opened
-    ensures { OpenedIs result s table.now }
-{
-    if settings_bad(s) {
-        return Opened::Refused(Refusal::Settings);
-    }
-    let capacity = table.len() / s.size;
-    if capacity == 0 {
-        return Opened::Refused(Refusal::Buffer);
-    }
-    let h = read_header(table, s);
-    if header_bad(h, capacity as u64) {
-        return Opened::Refused(Refusal::Header);
-    }
-    Opened::Table(h)
-}
 
 // Test 4: a keyed table, and a key that is not 32 bytes long.
 pub fn key_bad(s: Settings, key: &[u8]) -> bool
     ensures { result ≡ (s.keyed && not (eqb (length key.now) hash_bytes)) }
 {
-    if s.keyed {
-        return key.len() != definition::KEY_SIZE;
-    }
-    false
+    s.keyed && key.len() != KEY_SIZE
 }
 
-// Test 4 of a read, which may check a key or not.
-fn checked_key_bad(s: Settings, checked: bool, key: &[u8]) -> bool
-    ensures { refuse 4 result ≡ checked_key_test s (checked_key checked key.now) }
+// Test 4 of a read, which may check a key or not: the key that is compared, none on an unkeyed table.
+fn key_to_compare<'a>(
+    s: Settings,
+    key: Option<&'a [u8]>,
+) -> Result<Option<&'a [u8; KEY_SIZE]>, Refusal>
+    ensures { KeyIs result s (lent_key key) }
 {
-    if checked {
-        return key_bad(s, key);
+    match key {
+        Some(key) if s.keyed => match key.try_into() {
+            Ok(whole) => Ok(Some(whole)),
+            Err(_) => Err(Refusal::Key),
+        },
+        _ => Ok(None),
     }
-    false
 }
 
-// The tests of a read before its output: the table, the checked key, the slot, the head, the parts.
-pub fn check_record(table: &[u8], s: Settings, slot: u64, checked: bool, key: &[u8]) -> Walked
-    ensures { RecordIs result s table.now slot (checked_key checked key.now) }
+// The tests of a read before its output: the checked key, the slot, the head, the parts.
+pub fn check_record(table: &Table, slot: u64, key: Option<&[u8]>) -> Result<Extent, Refusal>
+    ensures { RecordIs result table.now.layout.settings table.now.bytes.now slot (lent_key key) }
 {
-    match check_table(table, s) {
-        Opened::Refused(r) => Walked::Refused(r),
-        Opened::Table(h) => {
-            if checked_key_bad(s, checked, key) {
-                return Walked::Refused(Refusal::Key);
-            }
-            check_chain(table, s, h.filled, slot, checked, key)
-        }
-    }
+    check_chain(table, slot, key_to_compare(table.layout.settings, key)?)
 }

@@ -1,96 +1,85 @@
 // The content of a chain copied out: any number of its bytes, from any place in it on.
 #![tactic(auto)]
 
-ghost use Rattle.std.specs.Prelude.{◌≡◌, false, List, ℕ, min, length, take, drop};
+ghost use Rattle.std.specs.Prelude.{◌≡◌, List, ℕ, ◌+◌, ◌≤◌, length, take, drop};
 ghost use Rattle.definition.specs.Numbers.{put};
-ghost use Rattle.definition.specs.Settings.{bad_settings};
-ghost use Rattle.contents.specs.Spans.{start_span, part_span, content_at, Copying, Copyable};
+ghost use Rattle.definition.specs.Chains.{sized_body};
+ghost use Rattle.contents.specs.Pieces.{SizeFits, StartFits, PartFits, start_piece, start_next, part_piece, part_next, content_at, Copying, Copyable};
 
-use copies::copy;
-use definition::Settings;
-use reader::{is_continuation, part_size, read_head_next, read_next};
-use slots::settings::{head_overhead, prefix_len};
+use definition::{INDEX_SIZE, SIZE_SIZE};
+use reader::Slot;
+use slots::layout::Layout;
 
-// Where a slot's piece of prefix and content lies in it, and the link to the next part, 0 if there is none.
+// A slot's piece of prefix and content, and the link to the next part, 0 if there is none.
 #[derive(Clone, Copy)]
-pub struct Span {
-    pub start: usize,
-    pub size: usize,
-    pub next: u64,
+struct Piece<'a> {
+    bytes: &'a [u8],
+    next: u64,
 }
 
-// The smaller of two numbers.
-fn smaller(a: usize, b: usize) -> usize
-    ensures { result ≡ min a b }
+// A plain slot, or a last part: as many bytes as its size word counts.
+fn sized_piece<'a>(slot: &Slot<'a>) -> Piece<'a>
+    requires { SizeFits slot.now.bytes.now }
+    ensures { (result.bytes.now ≡ sized_body slot.now.bytes.now) × (result.next ≡ 0) }
 {
-    if a < b { a } else { b }
-}
-
-// Where prefix and content lie in the slot where a chain starts.
-fn start_span(slot: &[u8], s: Settings) -> Span
-    requires { (bad_settings s ≡ false) × (length slot.now ≡ s.size) }
-    ensures { result ≡ start_span s slot.now }
-{
-    if s.multipart {
-        let o = head_overhead(s);
-        return Span {
-            start: o,
-            size: s.size - o,
-            next: read_head_next(slot, s),
-        };
-    }
-    Span {
-        start: definition::SIZE_SIZE,
-        size: part_size(slot),
+    Piece {
+        bytes: &slot.bytes[SIZE_SIZE..SIZE_SIZE + slot.part_size()],
         next: 0,
     }
 }
 
-// Where content lies in a later part.
-fn part_span(slot: &[u8], s: Settings) -> Span
-    requires { (bad_settings s ≡ false) × (length slot.now ≡ s.size) }
-    ensures { result ≡ part_span s slot.now }
+// The piece in the slot where a chain starts.
+fn start_piece<'a>(slot: &Slot<'a>) -> Piece<'a>
+    requires { StartFits slot.now.layout.settings slot.now.bytes.now }
+    ensures { (result.bytes.now ≡ start_piece slot.now.layout.settings slot.now.bytes.now) × (result.next ≡ start_next slot.now.layout.settings slot.now.bytes.now) }
 {
-    if is_continuation(slot) {
-        let o = definition::SIZE_SIZE + definition::INDEX_SIZE;
-        return Span {
-            start: o,
-            size: s.size - o,
-            next: read_next(slot),
-        };
+    let s = slot.layout.settings;
+    if !s.multipart {
+        return sized_piece(slot);
     }
-    Span {
-        start: definition::SIZE_SIZE,
-        size: part_size(slot),
-        next: 0,
+    Piece {
+        bytes: &slot.bytes[s.head_overhead()..],
+        next: slot.head_next(),
+    }
+}
+
+// The piece in a later part.
+fn part_piece<'a>(slot: &Slot<'a>) -> Piece<'a>
+    requires { PartFits slot.now.bytes.now }
+    ensures { (result.bytes.now ≡ part_piece slot.now.bytes.now) × (result.next ≡ part_next slot.now.bytes.now) }
+{
+    if !slot.is_continuation() {
+        return sized_piece(slot);
+    }
+    Piece {
+        bytes: &slot.bytes[SIZE_SIZE + INDEX_SIZE..],
+        next: slot.next(),
     }
 }
 
 // Copies n bytes of the later parts from slot `start` on, after the first `from` of them, into out at `to`.
 fn copy_rest(
     table: &[u8],
-    s: Settings,
+    layout: Layout,
     start: u64,
     from: usize,
     n: usize,
     out: &mut [u8],
     to: usize,
 )
-    requires { (bad_settings s ≡ false) × ((T : List ℕ) × Copying s table.now T start from n out.old to) }
-    ensures { (T : List ℕ) → Copying s table.now T start from n out.old to → out.new ≡ T }
+    requires { (T : List ℕ) × Copying layout.settings table.now T start from n out.old to }
+    ensures { (T : List ℕ) → Copying layout.settings table.now T start from n out.old to → out.new ≡ T }
 {
     let mut at = start;
     let mut skip = from;
     let mut left = n;
     let mut pos = to;
     while left > 0 {
-        let a = (at as usize) * s.size;
-        let z = a + s.size;
-        let p = part_span(&table[a..z], s);
-        let k = smaller(skip, p.size);
-        let c = smaller(p.size - k, left);
-        copy(table, a + p.start + k, c, out, pos);
-        at = p.next;
+        let piece = part_piece(&Slot::of(table, layout, at));
+        let k = piece.bytes.len().min(skip);
+        let c = (piece.bytes.len() - k).min(left);
+        out[pos..pos + c].copy_from_slice(&piece.bytes[k..k + c]);
+        at = piece.next;
         skip -= k;
         left -= c;
         pos += c;
@@ -98,16 +87,14 @@ fn copy_rest(
 }
 
 // Copies n bytes of the content of the chain in slot `at`, from place `from` of the content on, to the front of out.
-pub fn copy_content(table: &[u8], s: Settings, at: u64, from: usize, n: usize, out: &mut [u8])
-    requires { Copyable s table.now at from n out.old }
-    ensures { out.new ≡ put out.old 0 (take n (drop from (content_at s table.now at))) }
+pub fn copy_content(table: &[u8], layout: Layout, at: u64, from: usize, n: usize, out: &mut [u8])
+    requires { Copyable layout.settings table.now at from n out.old }
+    ensures { out.new ≡ put out.old 0 (take n (drop from (content_at layout.settings table.now at))) }
 {
-    let a = (at as usize) * s.size;
-    let z = a + s.size;
-    let p = start_span(&table[a..z], s);
-    let skip = prefix_len(s) + from;
-    let k = smaller(skip, p.size);
-    let c = smaller(p.size - k, n);
-    copy(table, a + p.start + k, c, out, 0);
-    copy_rest(table, s, p.next, skip - k, n - c, out, c);
+    let piece = start_piece(&Slot::of(table, layout, at));
+    let skip = layout.settings.prefix_len() + from;
+    let k = piece.bytes.len().min(skip);
+    let c = (piece.bytes.len() - k).min(n);
+    out[..c].copy_from_slice(&piece.bytes[k..k + c]);
+    copy_rest(table, layout, piece.next, skip - k, n - c, out, c);
 }

@@ -1,36 +1,38 @@
--- Where a slot's piece of prefix and content lies in it, and what is still to be copied of a chain's later parts.
-use Rattle.std.specs.Prelude.{◌≡◌, Bool, cond, List, ℕ, ◌+◌, ◌-◌, ◌*◌, ◌≤◌, ◌<◌, length, take, drop}
+-- A slot's piece of prefix and content, and what is still to be copied of a chain's later parts.
+use Rattle.std.specs.Prelude.{◌≡◌, Bool, false, cond, List, ℕ, ◌+◌, ◌-◌, ◌*◌, ◌≤◌, ◌<◌, length, take, drop}
 use Rattle.std.proofs.Math.Option.{none}
 use Rattle.definition.specs.declared.Settings.{Settings}
 use Rattle.definition.specs.Numbers.{put}
 use Rattle.definition.specs.Tests.{first}
 use Rattle.definition.specs.Settings.{word_bytes, link_overhead, head_overhead}
 use Rattle.definition.specs.Slots.{view, filled, is_continuation, size_of, head_link, link_of}
-use Rattle.definition.specs.Chains.{rest_body, content_of, walk}
+use Rattle.definition.specs.Chains.{sized_body, rest_body, content_of, walk}
 use Rattle.definition.specs.Calls.{capacity, table_tests, chain_tests}
 use Rattle.laws.proofs.Chains.{RestAt}
-use Rattle.contents.specs.declared.Span.{Span}
 
--- in a plain slot or a last part, in a continuation, in a head
-abbrev pub sized_span : List ℕ → Span
-sized_span b = record { start = word_bytes; size = size_of b; next = 0 }
+-- what the slot where a chain starts holds of prefix and content, and the slot that it links to, 0 if there is none
+unfoldable pub start_piece : Settings → List ℕ → List ℕ
+start_piece s b = cond s.multipart (drop (head_overhead s) b) (sized_body b)
 
-abbrev pub continuation_span : Settings → List ℕ → Span
-continuation_span s b = record { start = link_overhead; size = s.size - link_overhead; next = link_of b }
+unfoldable pub start_next : Settings → List ℕ → ℕ
+start_next s b = cond s.multipart (head_link s b) 0
 
-abbrev pub head_span : Settings → List ℕ → Span
-head_span s b = record { start = head_overhead s; size = s.size - head_overhead s; next = head_link s b }
+-- the same of a later part
+unfoldable pub part_piece : List ℕ → List ℕ
+part_piece b = cond (is_continuation b) (drop link_overhead b) (sized_body b)
 
--- in the slot where a chain starts, and in a later part
-unfoldable pub start_span : Settings → List ℕ → Span
-start_span s b = cond s.multipart (head_span s b) (sized_span b)
+unfoldable pub part_next : List ℕ → ℕ
+part_next b = cond (is_continuation b) (link_of b) 0
 
-unfoldable pub part_span : Settings → List ℕ → Span
-part_span s b = cond (is_continuation b) (continuation_span s b) (sized_span b)
+-- a size word that counts no more than the slot holds, where one is read
+abbrev pub SizeFits : List ℕ → Type 0
+SizeFits b = word_bytes + size_of b ≤ length b
 
--- the piece
-unfoldable pub piece_in : Span → List ℕ → List ℕ
-piece_in p b = take p.size (drop p.start b)
+abbrev pub StartFits : Settings → List ℕ → Type 0
+StartFits s b = s.multipart ≡ false → SizeFits b
+
+abbrev pub PartFits : List ℕ → Type 0
+PartFits b = is_continuation b ≡ false → SizeFits b
 
 -- the parts from a slot on: their slots, linked within the table, or none where nothing is left
 pub record Parts (s : Settings) (t : List ℕ) (at : ℕ) (l : List ℕ) : Type 0 where
