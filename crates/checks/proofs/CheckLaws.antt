@@ -1,4 +1,5 @@
 -- The checks that calls share, each way that they go.
+use Rattle.std.specs.Prelude.{Ok, Err, Result}
 use mathlib.Core.Path.{◌≡◌, refl, sym, ap, ◌∙◌}
 use mathlib.Core.Logic.{◌≢◌}
 use mathlib.Core.Bool.{Bool, true, false, ◌&&◌, ◌||◌, not}
@@ -21,7 +22,6 @@ use Rattle.definition.specs.Calls.{capacity, settings_test, buffer_test, header_
 use Rattle.laws.proofs.Tests.{number_some, refuse_yes, refuse_no, first_skip, first_refuses, first_one, first_refuse_all, first_past}
 use Rattle.laws.proofs.Passed.{opened}
 use Rattle.laws.proofs.Sizes.{slots_inside}
-use Rattle.walks.specs.declared.Walked.{Walked}
 use Rattle.walks.specs.Met.{ChainTested}
 use Rattle.checks.specs.declared.Opened.{Opened}
 use Rattle.checks.specs.Stages.{OpenedIs, RecordIs}
@@ -37,12 +37,12 @@ has_slot n E h = go (dec_le E n)
     go (no p) = absurd (h (div-eq_of_lt (lt_of_not-le p)))
 
 module _ (s : Settings) (t : List ℕ) where
-  pub bad_settings_lem : bad_settings s ≡ true → OpenedIs (Opened.Refused Refusal.Settings) s t
+  pub bad_settings_lem : bad_settings s ≡ true → OpenedIs (Err Refusal.Settings) s t
   unfolding settings_test
   bad_settings_lem e = first_refuses 1 _ _ (refuse_yes 1 (bad_settings s) e) (omega arith)
 
   module _ (g : bad_settings s ≡ false) where
-    pub no_capacity : length t / s.size ≡ 0 → OpenedIs (Opened.Refused Refusal.Buffer) s t
+    pub no_capacity : length t / s.size ≡ 0 → OpenedIs (Err Refusal.Buffer) s t
     unfolding settings_test buffer_test capacity
     no_capacity e = first_skip _ _ (refuse_no 1 (bad_settings s) g) ∙ first_refuses 2 _ _ (refuse_yes 2 _ (eq-eqb (length t / s.size) 0 e)) (omega arith)
 
@@ -53,14 +53,14 @@ module _ (s : Settings) (t : List ℕ) where
           first_skip _ _ (refuse_no 1 (bad_settings s) g) ∙ first_skip _ _ (refuse_no 2 _ (ne_eqb (length t / s.size) 0 c)) ∙ first_one _
           ∙ ap (refuse 3) (sym (q ∙ ap (λ (x : Header). leb x.filled x.removed || ltb (length t / s.size) x.filled) e))
 
-      pub bad_header : b ≡ true → OpenedIs (Opened.Refused Refusal.Header) s t
+      pub bad_header : b ≡ true → OpenedIs (Err Refusal.Header) s t
       bad_header y = third ∙ refuse_yes 3 b y
 
-      pub good_table : b ≡ false → OpenedIs (Opened.Table h) s t
+      pub good_table : b ≡ false → OpenedIs (Ok h) s t
       good_table n = (third ∙ refuse_no 3 b n, e)
 
 -- what an opened table's header says: good settings, and slots up to FILLED that lie within the table
-pub filled_inside : (s : Settings) (t : List ℕ) (h : Header) → OpenedIs (Opened.Table h) s t
+pub filled_inside : (s : Settings) (t : List ℕ) (h : Header) → OpenedIs (Ok h) s t
     → (bad_settings s ≡ false) × (h.filled * s.size ≤ length t) × (h.filled ≡ filled (view s.size t))
 filled_inside s t h e =
     let o = opened s (view s.size t) (capacity s t) e.0 in
@@ -88,13 +88,13 @@ key_unasked s = refl
 -- ---- a record
 
 module _ (s : Settings) (t : List ℕ) (h : ℕ) (key : Option (List ℕ)) where
-  pub table_refused : (r : Refusal) → OpenedIs (Opened.Refused r) s t → RecordIs (Walked.Refused r) s t h key
+  pub table_refused : (r : Refusal) → OpenedIs (Err r) s t → RecordIs (Err r) s t h key
   table_refused r e = first_refuse_all (number_of r) (table_tests s (view s.size t) (capacity s t)) _ e (number_some r)
 
   module _ (o : first (table_tests s (view s.size t) (capacity s t)) ≡ 0) where
-    pub key_refused : checked_key_test s key ≡ 4 → RecordIs (Walked.Refused Refusal.Key) s t h key
+    pub key_refused : checked_key_test s key ≡ 4 → RecordIs (Err Refusal.Key) s t h key
     key_refused e = first_past (table_tests s (view s.size t) (capacity s t)) _ o ∙ first_refuses 4 _ _ e (omega arith)
 
-    pub chain_decides : checked_key_test s key ≡ 0 → (r : Walked) → ChainTested r s (view s.size t) h key → RecordIs r s t h key
-    chain_decides e (Walked.Chain x) c = (first_past (table_tests s (view s.size t) (capacity s t)) _ o ∙ first_skip _ _ e ∙ c.0, c.1, c.2)
-    chain_decides e (Walked.Refused r) c = first_past (table_tests s (view s.size t) (capacity s t)) _ o ∙ first_skip _ _ e ∙ c
+    pub chain_decides : checked_key_test s key ≡ 0 → (r : Result Extent Refusal) → ChainTested r s (view s.size t) h key → RecordIs r s t h key
+    chain_decides e (Ok x) c = (first_past (table_tests s (view s.size t) (capacity s t)) _ o ∙ first_skip _ _ e ∙ c.0, c.1, c.2)
+    chain_decides e (Err r) c = first_past (table_tests s (view s.size t) (capacity s t)) _ o ∙ first_skip _ _ e ∙ c

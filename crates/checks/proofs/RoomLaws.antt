@@ -1,4 +1,5 @@
 -- Tests 11 and 12: room is refused exactly when the slots needed exceed the free ones and the unused ones.
+use Rattle.std.specs.Prelude.{Ok, Err}
 use mathlib.Core.Path.{◌≡◌, sym, ap, ap₂, ◌∙◌}
 use mathlib.Core.Bool.{Bool, true, false}
 use mathlib.Core.List.{List}
@@ -10,9 +11,7 @@ use lib.ListN.{length}
 use borrow.Author.Tests.{lt-ltb, le-ltb}
 use Rattle.definition.specs.declared.Settings.{Settings}
 use Rattle.definition.specs.declared.Header.{Header}
-use Rattle.definition.specs.declared.FreeCount.{FreeCount}
 use Rattle.definition.specs.declared.Refusal.{Refusal}
-use Rattle.definition.specs.declared.Written.{Written}
 use Rattle.definition.specs.Tests.{number_of, refuse, first}
 use Rattle.definition.specs.Slots.{view, filled, header_of}
 use Rattle.definition.specs.FreeList.{free_from, free_list}
@@ -40,10 +39,10 @@ unfolding free_list
 list_is s t h e = ap (λ (x : Header). free_from (view s.size t) x.filled (x.filled - 1) x.removed) e
 
 module _ (s : Settings) (t : List ℕ) (need : ℕ) where
-  pub list_refused : (r : Refusal) → FreeIs (FreeCount.Refused r) (free_list (view s.size t)) → RoomStage (Written.Refused r) s t need
+  pub list_refused : (r : Refusal) → FreeIs (Err r) (free_list (view s.size t)) → RoomStage (Err r) s t need
   list_refused r e = first_refuses (number_of r) _ _ e (number_some r)
 
-  module _ (h : Header) (o : OpenedIs (Opened.Table h) s t) (n : ℕ) (e : FreeIs (FreeCount.Members n) (free_list (view s.size t)))
+  module _ (h : Header) (o : OpenedIs (Ok h) s t) (n : ℕ) (e : FreeIs (Ok n) (free_list (view s.size t)))
       (b : Bool) (q : b ≡ ltb (n + (length t / s.size - h.filled)) need) where
     second : first (room_tests (supply_of s t) need) ≡ refuse 12 b
     unfolding room_test capacity
@@ -51,13 +50,13 @@ module _ (s : Settings) (t : List ℕ) (need : ℕ) where
         first_skip _ _ e.0 ∙ first_one _
         ∙ ap (refuse 12) (sym (q ∙ ap₂ (λ (i j : ℕ). ltb (i + (length t / s.size - j)) need) e.1 (ap (λ (x : Header). x.filled) o.1)))
 
-    pub room_refused : b ≡ true → RoomStage (Written.Refused Refusal.Room) s t need
+    pub room_refused : b ≡ true → RoomStage (Err Refusal.Room) s t need
     room_refused y = second ∙ refuse_yes 12 b y
 
     pub room_good : b ≡ false → RoomStage Written.Accepted s t need
     room_good y = second ∙ refuse_no 12 b y
 
 -- FILLED is within the capacity
-pub filled_within : (s : Settings) (t : List ℕ) (h : Header) → OpenedIs (Opened.Table h) s t → h.filled ≤ length t / s.size
+pub filled_within : (s : Settings) (t : List ℕ) (h : Header) → OpenedIs (Ok h) s t → h.filled ≤ length t / s.size
 unfolding capacity
 filled_within s t h o = let f : h.filled ≡ filled (view s.size t) = ap (λ (x : Header). x.filled) o.1 in omega (arith, (opened s (view s.size t) (capacity s t) o.0).fits, f)

@@ -1,4 +1,5 @@
 -- The value's tests, and the parts that a body needs: a head, then one part and one more for each further E - 10 bytes (`Parts-more`).
+use Rattle.std.specs.Prelude.{Ok, Err}
 use mathlib.Core.Path.{◌≡◌, sym, ap, ◌∙◌}
 use mathlib.Core.Bool.{Bool, true, false, cond, ◌&&◌, not}
 use mathlib.Core.List.{List, ◌++◌}
@@ -18,7 +19,6 @@ use Rattle.definition.specs.Calls.{key_test, value_test, value_tests}
 use Rattle.laws.proofs.Conditions.{Which, which, is_yes, is_no, cond_yes, cond_no}
 use Rattle.laws.proofs.Tests.{refuse_yes, refuse_no, first_skip, first_one, first_refuses}
 use Rattle.laws.proofs.Sizes.{length_prefix}
-use Rattle.checks.specs.declared.value.Valued.{Valued}
 use Rattle.checks.specs.Stages.{ValuedIs}
 
 -- ---- how many parts
@@ -97,7 +97,7 @@ module _ (s : Settings) (body : List ℕ) (n : ℕ) (long : length body ≡ n) w
 -- ---- tests 4 and 6
 
 module _ (s : Settings) (key content : List ℕ) where
-  pub key_wrong : (s.keyed && not (eqb (length key) 32)) ≡ true → ValuedIs (Valued.Refused Refusal.Key) s key content
+  pub key_wrong : (s.keyed && not (eqb (length key) 32)) ≡ true → ValuedIs (Err Refusal.Key) s key content
   unfolding key_test
   key_wrong e = first_refuses 4 _ _ (refuse_yes 4 _ e) (omega arith)
 
@@ -108,14 +108,14 @@ module _ (s : Settings) (key content : List ℕ) where
         first_skip _ _ (refuse_no 4 _ k) ∙ first_one _
         ∙ ap (refuse 6) (sym (q ∙ ap (λ (j : ℕ). cond s.multipart (leb j (s.size - 2)) (ltb (s.size - 2) j)) e))
 
-    pub value_wrong : b ≡ true → ValuedIs (Valued.Refused Refusal.Value) s key content
+    pub value_wrong : b ≡ true → ValuedIs (Err Refusal.Value) s key content
     value_wrong y = value_is ∙ refuse_yes 6 b y
 
     -- a multipart table's value is longer than a slot
     pub value_long : b ≡ false → s.multipart ≡ true → s.size - 2 < n
     value_long y m = leb-false n (s.size - 2) (sym (cond_yes s.multipart _ _ m) ∙ sym q ∙ y)
 
-    pub value_good : b ≡ false → (r : ℕ) → ((body : List ℕ) → length body ≡ n → r ≡ length (pieces s body)) → ValuedIs (Valued.Parts r) s key content
+    pub value_good : b ≡ false → (r : ℕ) → ((body : List ℕ) → length body ≡ n → r ≡ length (pieces s body)) → ValuedIs (Ok r) s key content
     unfolding key_test
     value_good y r f =
         (value_is ∙ refuse_no 6 b y, f (prefix s key ++ content) (length-append (prefix s key) content ∙ ap (λ (j : ℕ). j + length content) (length_prefix s key (refuse_no 4 _ k)) ∙ sym e))

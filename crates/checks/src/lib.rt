@@ -8,8 +8,10 @@ pub mod writing;
 
 ghost use Rattle.std.specs.Prelude.{◌≡◌, ◌&&◌, not, eqb, length};
 ghost use Rattle.definition.specs.Settings.{hash_bytes};
+ghost use Rattle.definition.specs.Tests.{refuse};
+ghost use Rattle.definition.specs.Calls.{checked_key_test};
 ghost use Rattle.slots.specs.Keys.{lent_key};
-ghost use Rattle.checks.specs.Stages.{KeyIs, RecordIs};
+ghost use Rattle.checks.specs.Stages.{RecordIs};
 
 use definition::{KEY_SIZE, Refusal, Settings};
 use reader::Table;
@@ -23,25 +25,22 @@ pub fn key_bad(s: Settings, key: &[u8]) -> bool
     s.keyed && key.len() != KEY_SIZE
 }
 
-// Test 4 of a read, which may check a key or not: the key that is compared, none on an unkeyed table.
-fn key_to_compare<'a>(
-    s: Settings,
-    key: Option<&'a [u8]>,
-) -> Result<Option<&'a [u8; KEY_SIZE]>, Refusal>
-    ensures { KeyIs result s (lent_key key) }
+// Test 4 of a read, which may check a key or not.
+fn checked_key_bad(s: Settings, key: Option<&[u8]>) -> bool
+    ensures { refuse 4 result ≡ checked_key_test s (lent_key key.entry) }
 {
     match key {
-        Some(key) if s.keyed => match key.try_into() {
-            Ok(whole) => Ok(Some(whole)),
-            Err(_) => Err(Refusal::Key),
-        },
-        _ => Ok(None),
+        Some(key) => key_bad(s, key),
+        None => false,
     }
 }
 
 // The tests of a read before its output: the checked key, the slot, the head, the parts.
 pub fn check_record(table: &Table, slot: u64, key: Option<&[u8]>) -> Result<Extent, Refusal>
-    ensures { RecordIs result table.now.layout.settings table.now.bytes.now slot (lent_key key) }
+    ensures { RecordIs result table.now.layout.settings table.now.bytes.now slot (lent_key key.entry) }
 {
-    check_chain(table, slot, key_to_compare(table.layout.settings, key)?)
+    if checked_key_bad(table.layout.settings, key) {
+        return Err(Refusal::Key);
+    }
+    check_chain(table, slot, key)
 }

@@ -17,7 +17,7 @@ fn room_bad(members: u64, unused: u64, need: u64) -> bool
 pub fn check_room(table: &Table, need: u64) -> Result<(), Refusal>
     ensures { RoomIs result table.now.layout.settings table.now.bytes.now need }
 {
-    let members = check_free_refs(table)?;
+    let members = check_free_refs(table.bytes, table.layout, table.header)?;
     if room_bad(members, table.capacity() - table.header.filled, need) {
         return Err(Refusal::Room);
     }

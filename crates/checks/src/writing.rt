@@ -57,6 +57,6 @@ pub fn check_remove(table: &[u8], s: Settings, slot: u64) -> Result<Layout, Refu
 {
     let table = Table::open(table, s)?;
     check_chain(&table, slot, None)?;
-    check_free_refs(&table)?;
+    check_free_refs(table.bytes, table.layout, table.header)?;
     Ok(table.layout)
 }

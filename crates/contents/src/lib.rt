@@ -7,7 +7,7 @@ ghost use Rattle.definition.specs.Chains.{sized_body};
 ghost use Rattle.contents.specs.Pieces.{SizeFits, StartFits, PartFits, start_piece, start_next, part_piece, part_next, content_at, Copying, Copyable};
 
 use definition::{INDEX_SIZE, SIZE_SIZE};
-use reader::Slot;
+use reader::{Slot, is_continuation, part_size, read_head_next, read_next};
 use slots::layout::Layout;
 
 // A slot's piece of prefix and content, and the link to the next part, 0 if there is none.
@@ -23,7 +23,7 @@ fn sized_piece<'a>(slot: &Slot<'a>) -> Piece<'a>
     ensures { (result.bytes.now ≡ sized_body slot.now.bytes.now) × (result.next ≡ 0) }
 {
     Piece {
-        bytes: &slot.bytes[SIZE_SIZE..SIZE_SIZE + slot.part_size()],
+        bytes: &slot.bytes[SIZE_SIZE..SIZE_SIZE + part_size(slot.bytes)],
         next: 0,
     }
 }
@@ -39,7 +39,7 @@ fn start_piece<'a>(slot: &Slot<'a>) -> Piece<'a>
     }
     Piece {
         bytes: &slot.bytes[s.head_overhead()..],
-        next: slot.head_next(),
+        next: read_head_next(slot.bytes, s),
     }
 }
 
@@ -48,12 +48,12 @@ fn part_piece<'a>(slot: &Slot<'a>) -> Piece<'a>
     requires { PartFits slot.now.bytes.now }
     ensures { (result.bytes.now ≡ part_piece slot.now.bytes.now) × (result.next ≡ part_next slot.now.bytes.now) }
 {
-    if !slot.is_continuation() {
+    if !is_continuation(slot.bytes) {
         return sized_piece(slot);
     }
     Piece {
         bytes: &slot.bytes[SIZE_SIZE + INDEX_SIZE..],
-        next: slot.next(),
+        next: read_next(slot.bytes),
     }
 }
 

@@ -1,4 +1,5 @@
 -- The slot of a count change and its head, each way out.
+use Rattle.std.specs.Prelude.{Ok, Err}
 use mathlib.Core.Path.{◌≡◌, ◌∙◌}
 use mathlib.Core.Logic.{◌≢◌}
 use mathlib.Core.List.{[], ◌∷◌}
@@ -14,11 +15,10 @@ use Rattle.definition.specs.Chains.{Parse, refused, part, head_fault, head_parse
 use Rattle.definition.specs.Calls.{slot_test}
 use Rattle.laws.proofs.Tests.{first_skip, first_one, first_refuses}
 use Rattle.laws.proofs.Heads.{slot_good, fault_in, parse_fault}
-use Rattle.counts.specs.declared.Counted.{Counted}
 use Rattle.counts.specs.Counts.{CountIs}
 
 module _ (s : Settings) (f : View) (h : ℕ) where
-  pub slot_refused : slot_test f h ≡ 7 → CountIs (Counted.Refused Refusal.Slot) s f h
+  pub slot_refused : slot_test f h ≡ 7 → CountIs (Err Refusal.Slot) s f h
   slot_refused e = first_refuses 7 _ _ e (omega arith)
 
   -- the slot passes, and the head decides
@@ -26,8 +26,8 @@ module _ (s : Settings) (f : View) (h : ℕ) where
     decides : (p : Parse) → p ≡ head_parse s none 8 (f h) → first (slot_test f h ∷ head_fault s none 8 (f h) ∷ []) ≡ fault_in p
     decides p e = first_skip _ _ (slot_good f h z b) ∙ first_one _ ∙ parse_fault s none 8 (f h) p e
 
-    pub head_refused : (r : Refusal) → refused (number_of r) ≡ head_parse s none 8 (f h) → CountIs (Counted.Refused r) s f h
+    pub head_refused : (r : Refusal) → refused (number_of r) ≡ head_parse s none 8 (f h) → CountIs (Err r) s f h
     head_refused r e = decides (refused (number_of r)) e
 
-    pub head_counted : (k : PartKind) (n c : ℕ) → part k n ≡ head_parse s none 8 (f h) → c ≡ count_of s (f h) → CountIs (Counted.Count c) s f h
+    pub head_counted : (k : PartKind) (n c : ℕ) → part k n ≡ head_parse s none 8 (f h) → c ≡ count_of s (f h) → CountIs (Ok c) s f h
     head_counted k n c e q = (decides (part k n) e, q)

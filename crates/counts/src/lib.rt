@@ -10,7 +10,7 @@ ghost use Rattle.counts.specs.Counts.{CountIs, stepped_to};
 
 use definition::{LOCKED_REF, Refusal};
 use numbers::Number;
-use reader::Table;
+use reader::{Table, read_count};
 use slots::layout::Layout;
 
 // The tests of a count change in slot `at`: the slot and the head, whose count it answers.
@@ -19,7 +19,7 @@ pub fn check_count(table: &Table, at: u64) -> Result<u32, Refusal>
 {
     let slot = table.record_slot(at)?;
     slot.parse_head(None, Refusal::Absent)?;
-    Ok(slot.count())
+    Ok(read_count(slot.bytes, slot.layout.settings))
 }
 
 // A positive step adds, stopping at the lock; a zero or negative one leaves a locked count, else takes its magnitude off. None is left

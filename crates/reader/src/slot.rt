@@ -1,15 +1,18 @@
-// A slot of a table whose settings passed test 1.
-ghost use Rattle.std.specs.Prelude.{◌≡◌, Bool, false, ◌&&◌, not, ◌-◌, ◌+◌, ◌*◌, ◌≤◌, ltb, length};
+// A slot of a table whose settings passed test 1, whole, and its parse.
+ghost use Rattle.std.specs.Prelude.{◌≡◌, Bool, ◌&&◌, not, ◌-◌, ◌+◌, ◌*◌, ◌≤◌, ltb, length};
 ghost use Rattle.definition.specs.Tests.{number_of};
-ghost use Rattle.definition.specs.Settings.{word_bytes, link_overhead, prefix_len};
-ghost use Rattle.definition.specs.Slots.{marked, compressed_mark, is_free, is_continuation, is_head, size_of, total_of, head_link, link_of, starts, count_of, mark_of, view};
+ghost use Rattle.definition.specs.Settings.{word_bytes, prefix_len};
+ghost use Rattle.definition.specs.Slots.{size_of, view};
 ghost use Rattle.definition.specs.Chains.{head_parse, later_parse};
 ghost use Rattle.definition.specs.Answers.{parse_of};
+ghost use Rattle.definition.specs.Calls.{checked_key_test};
 ghost use Rattle.slots.specs.Keys.{lent_key};
 
-use definition::{COMPRESSED_MASK, INDEX_SIZE, KEY_SIZE, Part, PartKind, Refusal, SIZE_SIZE};
-use entry::u64_at;
-use numbers::{Number, has_mark};
+use crate::bytes::{
+    is_continuation, is_free, is_head, part_size, read_count, read_head_next, read_next,
+    starts_chain,
+};
+use definition::{INDEX_SIZE, Part, PartKind, Refusal, SIZE_SIZE};
 use slots::keys::key_differs;
 use slots::layout::Layout;
 
@@ -32,110 +35,12 @@ impl<'a> Slot<'a> {
         }
     }
 
-    // ---- marks
-
-    // ff ff: a free slot.
-    pub fn is_free(&self) -> bool
-        ensures { result ≡ is_free self.now.bytes.now }
-    {
-        has_mark(self.bytes, b"\xff\xff")
-    }
-
-    // fe ff: a continuation.
-    pub fn is_continuation(&self) -> bool
-        ensures { result ≡ is_continuation self.now.bytes.now }
-    {
-        has_mark(self.bytes, b"\xfe\xff")
-    }
-
-    // fd 7f: a compressed head.
-    pub fn is_compressed_head(&self) -> bool
-        ensures { result ≡ marked compressed_mark self.now.bytes.now }
-    {
-        has_mark(self.bytes, b"\xfd\x7f")
-    }
-
-    // fd ff or fd 7f: a head.
-    pub fn is_head(&self) -> bool
-        ensures { result ≡ is_head self.now.bytes.now }
-    {
-        has_mark(self.bytes, b"\xfd\xff") || self.is_compressed_head()
-    }
-
-    // ---- sizes, links, counts
-
-    // The size word's low 15 bits.
-    pub fn part_size(&self) -> usize
-        ensures { result ≡ size_of self.now.bytes.now }
-    {
-        (u16::read(self.bytes, 0) % COMPRESSED_MASK) as usize
-    }
-
-    // The link of a continuation or of a free slot.
-    pub fn next(&self) -> u64
-        ensures { result ≡ link_of self.now.bytes.now }
-    {
-        u64_at(self.bytes, SIZE_SIZE)
-    }
-
-    // The content length in a head.
-    pub fn total(&self) -> u64
-        ensures { result ≡ total_of self.now.bytes.now }
-    {
-        u64_at(self.bytes, SIZE_SIZE)
-    }
-
-    // The link of a head, right before its prefix.
-    pub fn head_next(&self) -> u64
-        ensures { result ≡ head_link self.now.layout.settings self.now.bytes.now }
-    {
-        u64_at(
-            self.bytes,
-            self.layout.settings.head_overhead() - INDEX_SIZE,
-        )
-    }
-
-    // Whether a chain starts in the slot.
-    pub fn starts_chain(&self) -> bool
-        ensures { result ≡ starts self.now.layout.settings self.now.bytes.now }
-    {
-        if self.layout.settings.multipart {
-            self.is_head()
-        } else {
-            !self.is_free()
-        }
-    }
-
-    // The count where a chain starts, 1 if uncounted.
-    pub fn count(&self) -> u32
-        ensures { result ≡ count_of self.now.layout.settings self.now.bytes.now }
-    {
-        if self.layout.settings.counted {
-            u32::read(self.bytes, self.layout.settings.start_overhead())
-        } else {
-            1
-        }
-    }
-
-    // The compressed mark where a chain starts.
-    pub fn is_compressed(&self) -> bool
-        ensures { result ≡ mark_of self.now.layout.settings self.now.bytes.now }
-    {
-        if self.layout.settings.multipart {
-            self.is_compressed_head()
-        } else {
-            u16::read(self.bytes, 0) >= COMPRESSED_MASK
-        }
-    }
-
-    // ---- parts
-
     // Whether a plain slot counts fewer bytes than the prefix has.
     fn size_below_prefix(&self) -> bool
         ensures { result ≡ (not self.now.layout.settings.multipart && ltb (size_of self.now.bytes.now) (prefix_len self.now.layout.settings)) }
     {
         let s = self.layout.settings;
-        !s.multipart && self.part_size() < s.prefix_len()
+        !s.multipart && part_size(self.bytes) < s.prefix_len()
     }
 
     // Whether a plain slot counts more bytes than the slot holds.
@@ -143,26 +48,23 @@ impl<'a> Slot<'a> {
         ensures { result ≡ (not self.now.layout.settings.multipart && ltb (self.now.layout.settings.size - word_bytes) (size_of self.now.bytes.now)) }
     {
         let s = self.layout.settings;
-        !s.multipart && self.part_size() > s.size - SIZE_SIZE
+        !s.multipart && part_size(self.bytes) > s.size - SIZE_SIZE
     }
 
     // The slot where a chain starts: its tests in order, then its kind, with its link, and the bytes that it holds.
     // `mismatch` is the refusal of a checked key that differs.
-    pub fn parse_head(
-        &self,
-        key: Option<&[u8; KEY_SIZE]>,
-        mismatch: Refusal,
-    ) -> Result<Part, Refusal>
-        ensures { parse_of result ≡ head_parse self.now.layout.settings (lent_key key) (number_of mismatch) self.now.bytes.now }
+    pub fn parse_head(&self, key: Option<&[u8]>, mismatch: Refusal) -> Result<Part, Refusal>
+        requires { checked_key_test self.now.layout.settings (lent_key key) ≡ 0 }
+        ensures { parse_of result ≡ head_parse self.now.layout.settings (lent_key key.entry) (number_of mismatch) self.now.bytes.now }
     {
         let s = self.layout.settings;
-        if !self.starts_chain() {
+        if !starts_chain(self.bytes, s) {
             return Err(Refusal::Absent);
         }
         if self.size_below_prefix() {
             return Err(Refusal::Size);
         }
-        if self.count() == 0 {
+        if read_count(self.bytes, s) == 0 {
             return Err(Refusal::Absent);
         }
         if key_differs(self.bytes, self.layout, key) {
@@ -173,13 +75,13 @@ impl<'a> Slot<'a> {
         }
         if s.multipart {
             return Ok(Part {
-                kind: PartKind::Head(self.head_next()),
+                kind: PartKind::Head(read_head_next(self.bytes, s)),
                 bytes: s.size - s.head_overhead(),
             });
         }
         Ok(Part {
             kind: PartKind::Last(0),
-            bytes: self.part_size(),
+            bytes: part_size(self.bytes),
         })
     }
 
@@ -188,19 +90,19 @@ impl<'a> Slot<'a> {
         ensures { (mark after_head : Bool) → parse_of result ≡ later_parse self.now.layout.settings mark after_head self.now.bytes.now }
     {
         let size = self.layout.settings.size;
-        if self.is_free() {
+        if is_free(self.bytes) {
             return Err(Refusal::Chain);
         }
-        if self.is_head() {
+        if is_head(self.bytes) {
             return Err(Refusal::Chain);
         }
-        if self.is_continuation() {
+        if is_continuation(self.bytes) {
             return Ok(Part {
-                kind: PartKind::Continuation(self.next()),
+                kind: PartKind::Continuation(read_next(self.bytes)),
                 bytes: size - (SIZE_SIZE + INDEX_SIZE),
             });
         }
-        let bytes = self.part_size();
+        let bytes = part_size(self.bytes);
         if bytes > size - SIZE_SIZE {
             return Err(Refusal::Size);
         }

@@ -13,7 +13,6 @@ pub struct Table<'a> {
     pub layout: Layout,
     pub header: Header,
     pub ghost own: { header ≡ header_of (view layout.settings.size bytes.now) },
-    pub ghost below: { header.removed < header.filled },
     pub ghost fits: { header.filled * layout.settings.size ≤ length bytes.now },
 }
 

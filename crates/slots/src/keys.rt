@@ -1,30 +1,30 @@
 // The partial key, bytes 6 to 31 of the 32-byte hash: compared with the one in a slot, and written after the count.
 ghost use Rattle.std.specs.Prelude.{◌≡◌, ◌+◌, ◌≤◌, length, take, drop};
 ghost use Rattle.definition.specs.Numbers.{same_bytes};
-ghost use Rattle.definition.specs.Settings.{count_bytes, key_bytes, prefix_len};
+ghost use Rattle.definition.specs.Settings.{key_bytes, hash_bytes, prefix_len};
 ghost use Rattle.definition.specs.Slots.{partial_key};
 ghost use Rattle.definition.specs.Chains.{key_differs};
 ghost use Rattle.definition.specs.Parts.{prefix};
-ghost use Rattle.definition.specs.Calls.{key_test};
+ghost use Rattle.definition.specs.Calls.{key_test, checked_key_test};
 ghost use Rattle.slots.specs.Keys.{lent_key};
 
 use crate::layout::Layout;
-use definition::{KEY_SIZE, KEY_SKIP, PARTIAL_SIZE, PREFIX_SIZE, REFS_SIZE, Settings};
+use definition::{KEY_SKIP, PARTIAL_SIZE, PREFIX_SIZE, REFS_SIZE, Settings};
 use entry::PartialKey;
 use numbers::Number;
 
 // Whether the 26 bytes of the slot at place `at` are the key's bytes 6 to 31.
-fn same_key(slot: &[u8], at: usize, key: &[u8; KEY_SIZE]) -> bool
-    requires { at + key_bytes ≤ length slot.now }
+fn same_key(slot: &[u8], at: usize, key: &[u8]) -> bool
+    requires { (at + key_bytes ≤ length slot.now) × (length key.now ≡ hash_bytes) }
     ensures { result ≡ same_bytes (take key_bytes (drop at slot.now)) (partial_key key.now) }
 {
     PartialKey::at(slot, at) == PartialKey::at(key, KEY_SKIP)
 }
 
-// Whether the key that is checked, if one is, differs from the one in the slot. An unkeyed table ignores it.
-pub fn key_differs(slot: &[u8], layout: Layout, key: Option<&[u8; KEY_SIZE]>) -> bool
-    requires { length slot.now ≡ layout.settings.size }
-    ensures { result ≡ key_differs layout.settings (lent_key key) slot.now }
+// Whether the key that is checked, if one is, differs from the one in the slot. An unkeyed table ignores it, whatever its length.
+pub fn key_differs(slot: &[u8], layout: Layout, key: Option<&[u8]>) -> bool
+    requires { (length slot.now ≡ layout.settings.size) × (checked_key_test layout.settings (lent_key key) ≡ 0) }
+    ensures { result ≡ key_differs layout.settings (lent_key key.entry) slot.now }
 {
     let s = layout.settings;
     match key {

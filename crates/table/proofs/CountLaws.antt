@@ -1,5 +1,6 @@
 -- The change of a count and the length of the free list, each way out: refused by the checks of the table, of the slot or of the head,
 -- or answered as the definition says.
+use Rattle.std.specs.Prelude.{Ok, Err, Result}
 use mathlib.Core.Path.{◌≡◌, refl, sym, ap, ◌∙◌, subst}
 use mathlib.Core.Bool.{true, false, not}
 use mathlib.Core.List.{List, [], ◌∷◌}
@@ -11,7 +12,6 @@ use lib.ListN.{length}
 use Rattle.definition.specs.declared.Settings.{Settings}
 use Rattle.definition.specs.declared.Header.{Header}
 use Rattle.definition.specs.declared.Refusal.{Refusal}
-use Rattle.definition.specs.declared.FreeCount.{FreeCount}
 use Rattle.definition.specs.Numbers.{bytes, put}
 use Rattle.definition.specs.Tests.{number_of, first}
 use Rattle.definition.specs.Settings.{start_overhead, bad_settings}
@@ -27,7 +27,6 @@ use Rattle.laws.proofs.Passed.{slot_passed}
 use Rattle.laws.proofs.Counts.{count_store_lem}
 use Rattle.walks.specs.Met.{FreeIs}
 use Rattle.checks.specs.declared.Opened.{Opened}
-use Rattle.counts.specs.declared.Counted.{Counted}
 use Rattle.counts.specs.declared.Stepped.{Stepped}
 use Rattle.checks.specs.Stages.{OpenedIs}
 use Rattle.counts.specs.Counts.{CountIs, stepped_to}
@@ -45,11 +44,11 @@ stepped_count none n e = absurd (let z : ◌≡◌ {A = ℕ} 0 1 = cc in omega a
 stepped_count (some m) n e = cc
 
 module _ (s : Settings) (z : ℤ) (h : ℕ) (t : List ℕ) where
-  pub change_closed : (r : Refusal) → OpenedIs (Opened.Refused r) s t → (refusal (number_of r), t) ≡ change s z h t
+  pub change_closed : (r : Refusal) → OpenedIs (Err r) s t → (refusal (number_of r), t) ≡ change s z h t
   unfolding change
   change_closed r e = refuses (number_of r) _ t _ (first_refuse_all (number_of r) _ _ e (number_some r)) (number_some r)
 
-  module _ (k : Header) (o : OpenedIs (Opened.Table k) s t) where
+  module _ (k : Header) (o : OpenedIs (Ok k) s t) where
     pub change_uncounted : s.counted ≡ false → (refusal 5, t) ≡ change s z h t
     unfolding change uncounted_test
     change_uncounted e = refuses 5 _ t _ (first_past _ _ o.0 ∙ first_refuses 5 _ _ (refuse_yes 5 _ (ap not e)) (omega arith)) (omega arith)
@@ -60,11 +59,11 @@ module _ (s : Settings) (z : ℤ) (h : ℕ) (t : List ℕ) where
       unfolding uncounted_test
       rest = first_past _ _ o.0 ∙ first_skip _ _ (refuse_no 5 _ (ap not y))
 
-      pub change_refused : (r : Refusal) → CountIs (Counted.Refused r) s (view s.size t) h → (refusal (number_of r), t) ≡ change s z h t
+      pub change_refused : (r : Refusal) → CountIs (Err r) s (view s.size t) h → (refusal (number_of r), t) ≡ change s z h t
       unfolding change
       change_refused r e = refuses (number_of r) _ t _ (rest ∙ e) (number_some r)
 
-      module _ (c : ℕ) (e : CountIs (Counted.Count c) s (view s.size t) h) where
+      module _ (c : ℕ) (e : CountIs (Ok c) s (view s.size t) h) where
         -- the count may be stored: its slot lies within the table
         pub change_inside : (bad_settings s ≡ false) × (h * s.size + s.size ≤ length t)
         change_inside =
@@ -94,17 +93,17 @@ module _ (s : Settings) (z : ℤ) (h : ℕ) (t : List ℕ) where
 -- ---- the length of the free list
 
 module _ (s : Settings) (t : List ℕ) where
-  pub free_closed : (r : Refusal) → OpenedIs (Opened.Refused r) s t → refusal (number_of r) ≡ free_count s t
+  pub free_closed : (r : Refusal) → OpenedIs (Err r) s t → refusal (number_of r) ≡ free_count s t
   unfolding free_count
   free_closed r e = answer_refuses (number_of r) _ _ (first_refuse_all (number_of r) _ _ e (number_some r)) (number_some r)
 
-  module _ (k : Header) (o : OpenedIs (Opened.Table k) s t) where
-    list_decides : (r : FreeCount) → FreeIs r (free_list (view s.size t)) → free_count_of r ≡ free_count s t
+  module _ (k : Header) (o : OpenedIs (Ok k) s t) where
+    list_decides : (r : Result ℕ Refusal) → FreeIs r (free_list (view s.size t)) → free_count_of r ≡ free_count s t
     unfolding free_count
-    list_decides (FreeCount.Members n) e = ap members e.1 ∙ answer_accepts _ _ (first_past _ _ o.0 ∙ first_one _ ∙ e.0)
-    list_decides (FreeCount.Refused r) e = answer_refuses (number_of r) _ _ (first_past _ _ o.0 ∙ first_one _ ∙ e) (number_some r)
+    list_decides (Ok n) e = ap members e.1 ∙ answer_accepts _ _ (first_past _ _ o.0 ∙ first_one _ ∙ e.0)
+    list_decides (Err r) e = answer_refuses (number_of r) _ _ (first_past _ _ o.0 ∙ first_one _ ∙ e) (number_some r)
 
     -- the walk from the header on decides
-    pub free_decides : (r : FreeCount) → FreeIs r (free_from (view s.size t) k.filled (k.filled - 1) k.removed) → free_count_of r ≡ free_count s t
+    pub free_decides : (r : Result ℕ Refusal) → FreeIs r (free_from (view s.size t) k.filled (k.filled - 1) k.removed) → free_count_of r ≡ free_count s t
     unfolding free_list
     free_decides r e = list_decides r (subst (λ (x : Header). FreeIs r (free_from (view s.size t) x.filled (x.filled - 1) x.removed)) o.1 e)

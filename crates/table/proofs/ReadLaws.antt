@@ -1,4 +1,5 @@
 -- The reads, each way out: refused by the checks that they share, by the output, or answered with what the chain holds.
+use Rattle.std.specs.Prelude.{Ok, Err}
 use mathlib.Core.Path.{◌≡◌, refl, sym, ap, ap₂, ◌∙◌}
 use mathlib.Core.Bool.{Bool, true, false, cond}
 use mathlib.Core.List.{List, [], ◌∷◌, ◌++◌}
@@ -25,7 +26,6 @@ use Rattle.laws.proofs.Puts.{put_front}
 use Rattle.laws.proofs.Sizes.{sizes, slot_inside}
 use Rattle.laws.proofs.Passed.{opened, slot_passed, head_unkeyed, walk_fixed}
 use Rattle.walks.specs.declared.Extent.{Extent}
-use Rattle.walks.specs.declared.Walked.{Walked}
 use Rattle.contents.specs.Spans.{Copyable, content_at}
 use Rattle.contents.proofs.StartCopies.{prefix_there}
 use Rattle.walks.proofs.ChainWalks.{size_fits, size_least}
@@ -50,7 +50,7 @@ unchecked s f h key e =
     let b = first_pass (head_fault s key 8 (f h)) _ a.1 in
     first_skip (slot_test f h) _ a.0 ∙ first_skip (head_fault s none 8 (f h)) _ (head_unkeyed s key (f h) b.0) ∙ b.1
 
-pub readable : (s : Settings) (t : List ℕ) (h : ℕ) (key : Option (List ℕ)) (x : Extent) → RecordIs (Walked.Chain x) s t h key → Readable s t h x
+pub readable : (s : Settings) (t : List ℕ) (h : ℕ) (key : Option (List ℕ)) (x : Extent) → RecordIs (Ok x) s t h key → Readable s t h x
 unfolding content_of
 readable s t h key x e =
     let f = view s.size t in
@@ -76,11 +76,11 @@ module _ (s : Settings) (t : List ℕ) (h : ℕ) (key : Option (List ℕ)) (out 
   shared : List ℕ
   shared = table_tests s (view s.size t) (capacity s t) ++ (checked_key_test s key ∷ chain_tests s (view s.size t) h key)
 
-  pub read_refused : (r : Refusal) → RecordIs (Walked.Refused r) s t h key → (refusal (number_of r), out) ≡ read s key h t out
+  pub read_refused : (r : Refusal) → RecordIs (Err r) s t h key → (refusal (number_of r), out) ≡ read s key h t out
   unfolding read shared
   read_refused r e = refuses (number_of r) _ out _ (first_refuse_all (number_of r) shared _ e (number_some r)) (number_some r)
 
-  module _ (x : Extent) (e : RecordIs (Walked.Chain x) s t h key) where
+  module _ (x : Extent) (e : RecordIs (Ok x) s t h key) where
     last_test : first (shared ++ (output_test (content_at s t h) out ∷ [])) ≡ output_test (content_at s t h) out
     unfolding shared
     last_test = first_past shared _ e.0 ∙ first_one _
@@ -122,7 +122,7 @@ module _ (s : Settings) (t : List ℕ) (h : ℕ) (key : Option (List ℕ)) where
     unfolding fixed_tests
     rest = first_skip _ _ (refuse_no 1 s.multipart m)
 
-    pub fixed_refused : (r : Refusal) → RecordIs (Walked.Refused r) s t h key → refusal (number_of r) ≡ find_fixed s key h t
+    pub fixed_refused : (r : Refusal) → RecordIs (Err r) s t h key → refusal (number_of r) ≡ find_fixed s key h t
     unfolding find_fixed look_fixed
     fixed_refused r e = ap (λ (a : Answer × List ℕ). a.0) (refuses (number_of r) _ [] _ (rest ∙ e) (number_some r))
 
@@ -130,7 +130,7 @@ module _ (s : Settings) (t : List ℕ) (h : ℕ) (key : Option (List ℕ)) where
     alone : (walk s (view s.size t) (filled (view s.size t)) h).slots ≡ h ∷ []
     alone = ap (λ w. w.slots) (walk_fixed s (view s.size t) (filled (view s.size t)) h m)
 
-    pub fixed_found : (x : Extent) → RecordIs (Walked.Chain x) s t h key → (len : ℕ) → len ≡ x.bytes - prefix_len s
+    pub fixed_found : (x : Extent) → RecordIs (Ok x) s t h key → (len : ℕ) → len ≡ x.bytes - prefix_len s
         → found len (mark_of s (view s.size t h)) (count_of s (view s.size t h)) x.parts ≡ find_fixed s key h t
     unfolding find_fixed look_fixed
     fixed_found x e len q =

@@ -1,5 +1,6 @@
 -- Insert, replace and remove, each way out: refused by its tests; or, once they have passed, on any table, sound or not, the effect may
 -- start (`…-starts`), and what it leaves is what the definition says (`…-done`).
+use Rattle.std.specs.Prelude.{Ok, Err}
 use mathlib.Core.Path.{◌≡◌, refl, sym, ap, ap₂, ◌∙◌}
 use mathlib.Core.Bool.{Bool, false}
 use mathlib.Core.List.{List, [], ◌++◌, head_d}
@@ -8,7 +9,6 @@ use Prim.Native.Nat.{ℕ}
 use lib.ListN.{length}
 use Rattle.definition.specs.declared.Settings.{Settings}
 use Rattle.definition.specs.declared.Refusal.{Refusal}
-use Rattle.definition.specs.declared.Written.{Written}
 use Rattle.definition.specs.Tests.{number_of, first}
 use Rattle.definition.specs.Slots.{view, store}
 use Rattle.definition.specs.FreeList.{free_list}
@@ -38,7 +38,7 @@ module _ (s : Settings) (key content t : List ℕ) where
   abbrev written : Bool → List ℕ → List ℕ
   written mark old = store s.size t (effect s mark (length content) (pieces s (prefix s key ++ content)) old (free_of s t) (filled_of s t))
 
-  pub insert_refused : (mark : Bool) (r : Refusal) → TestedIs (Written.Refused r) (insert_tests s key content t) → (refusal (number_of r), t) ≡ insert s key content mark t
+  pub insert_refused : (mark : Bool) (r : Refusal) → TestedIs (Err r) (insert_tests s key content t) → (refusal (number_of r), t) ≡ insert s key content mark t
   unfolding insert
   insert_refused mark r e = refuses _ _ _ _ e (number_some r)
 
@@ -57,11 +57,11 @@ module _ (s : Settings) (key content t : List ℕ) where
     insert_done mark u h w = accepts_to _ _ (ap₂ (λ (n : ℕ) (b : List ℕ). (at n, b)) w.1 w.0) e
 
   module _ (h : ℕ) where
-    pub replace_refused : (mark : Bool) (r : Refusal) → FittedIs (Fitted.Refused r) s key content h t → (refusal (number_of r), t) ≡ replace s key content mark h t
+    pub replace_refused : (mark : Bool) (r : Refusal) → FittedIs (Err r) s key content h t → (refusal (number_of r), t) ≡ replace s key content mark h t
     unfolding replace
     replace_refused mark r e = refuses _ _ _ _ e (number_some r)
 
-    module _ (same : Bool) (e : FittedIs (Fitted.Same same) s key content h t) where
+    module _ (same : Bool) (e : FittedIs (Ok same) s key content h t) where
       pub replace_starts : Writable s same key content t (chain_of s t h) (free_of s t) h
       replace_starts =
           let o = first_both (table_tests s (view s.size t) (capacity s t)) _ e.0 in
@@ -78,7 +78,7 @@ module _ (s : Settings) (key content t : List ℕ) where
 -- ---- a chain freed
 
 module _ (s : Settings) (h : ℕ) (t : List ℕ) where
-  pub remove_refused : (r : Refusal) → TestedIs (Written.Refused r) (remove_tests s h t) → (refusal (number_of r), t) ≡ remove s h t
+  pub remove_refused : (r : Refusal) → TestedIs (Err r) (remove_tests s h t) → (refusal (number_of r), t) ≡ remove s h t
   unfolding remove
   remove_refused r e = refuses _ _ _ _ e (number_some r)
 

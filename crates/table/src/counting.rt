@@ -33,5 +33,6 @@ pub fn change_count(
 pub fn free_count(table: &[u8], s: Settings) -> Result<u64, Refusal>
     ensures { free_count_of result ≡ free_count s table.now }
 {
-    check_free_refs(&Table::open(table, s)?)
+    let table = Table::open(table, s)?;
+    check_free_refs(table.bytes, table.layout, table.header)
 }

@@ -9,18 +9,19 @@ ghost use Rattle.table.specs.Found.{FoundIs};
 use checks::check_record;
 use contents::copy_content;
 use definition::{Record, Refusal, SIZE_SIZE, Settings};
-use reader::Table;
+use reader::{Table, read_compressed, read_count};
 
 // The tests of a read before its output, and what is told of the record.
 fn find_record(table: &Table, slot: u64, key: Option<&[u8]>) -> Result<Record, Refusal>
-    ensures { FoundIs result table.now.layout.settings table.now.bytes.now slot (lent_key key) }
+    ensures { FoundIs result table.now.layout.settings table.now.bytes.now slot (lent_key key.entry) }
 {
     let chain = check_record(table, slot, key)?;
-    let head = table.slot(slot);
+    let s = table.layout.settings;
+    let head = table.slot(slot).bytes;
     Ok(Record {
-        len: (chain.bytes - table.layout.settings.prefix_len()) as u64,
-        mark: head.is_compressed(),
-        count: head.count(),
+        len: (chain.bytes - s.prefix_len()) as u64,
+        mark: read_compressed(head, s),
+        count: read_count(head, s),
         visits: chain.parts,
     })
 }
@@ -33,7 +34,7 @@ pub fn read(
     key: Option<&[u8]>,
     output: &mut [u8],
 ) -> Result<Record, Refusal>
-    ensures { (found_of result, output.new) ≡ read s (lent_key key) slot table.now output.old }
+    ensures { (found_of result, output.new) ≡ read s (lent_key key.entry) slot table.now output.old }
 {
     let opened = Table::open(table, s)?;
     let record = find_record(&opened, slot, key)?;
@@ -51,7 +52,7 @@ pub fn find_fixed(
     slot: u64,
     key: Option<&[u8]>,
 ) -> Result<Record, Refusal>
-    ensures { found_of result ≡ find_fixed s (lent_key key) slot table.now }
+    ensures { found_of result ≡ find_fixed s (lent_key key.entry) slot table.now }
 {
     if s.multipart {
         return Err(Refusal::Settings);
@@ -66,8 +67,8 @@ pub fn read_fixed<'a, 'b>(
     slot: u64,
     key: Option<&'b [u8]>,
 ) -> &'a [u8]
-    ensures { (result.now ≡ read_fixed s (lent_key key) slot table.now)
-        × LiesAt result table.entry (part_start s (lent_key key) slot table.now) }
+    ensures { (result.now ≡ read_fixed s (lent_key key.entry) slot table.now)
+        × LiesAt result table.entry (part_start s (lent_key key.entry) slot table.now) }
 {
     match find_fixed(table, s, slot, key) {
         Err(_) => &table[..0],

@@ -1,4 +1,5 @@
 -- The walk of a whole chain: a plain slot alone, or a head, its later parts and, last, its total; and the tests of a call on it.
+use Rattle.std.specs.Prelude.{Ok, Err, Result}
 use mathlib.Core.Path.{◌≡◌, refl, sym, ap, ap₂, ◌∙◌}
 use mathlib.Core.Logic.{◌≢◌}
 use mathlib.Core.Bool.{Bool, true, false, cond, not}
@@ -27,7 +28,6 @@ use Rattle.laws.proofs.Chains.{rest_walk}
 use Rattle.laws.proofs.Passed.{head_unkeyed}
 use Rattle.laws.proofs.Heads.{slot_good, parse_fault, parse_part}
 use Rattle.walks.specs.declared.Extent.{Extent}
-use Rattle.walks.specs.declared.Walked.{Walked}
 use Rattle.walks.specs.Met.{RestIs, ChainIs, ChainTested}
 
 -- ---- how much later parts hold
@@ -64,12 +64,12 @@ module _ (s : Settings) (f : View) (F h : ℕ) (m : s.multipart ≡ true) where
   walk_is = cond_yes s.multipart _ _ m
 
   -- a fault of the later parts is the chain's
-  pub later_refused : (r : Refusal) → RestIs (Walked.Refused r) f (parts_from s f F (mark_of s (f h)) true (F - 2) (head_link s (f h))) → ChainIs (Walked.Refused r) s f (walk s f F h)
+  pub later_refused : (r : Refusal) → RestIs (Err r) f (parts_from s f F (mark_of s (f h)) true (F - 2) (head_link s (f h))) → ChainIs (Err r) s f (walk s f F h)
   unfolding later with_total
   later_refused r e =
       ap (λ (w : Walk). w.fault) walk_is ∙ first_refuses (number_of r) _ _ e (number_some r)
 
-  module _ (w : length (f h) ≡ s.size) (x : Extent) (e : RestIs (Walked.Chain x) f (parts_from s f F (mark_of s (f h)) true (F - 2) (head_link s (f h)))) where
+  module _ (w : length (f h) ≡ s.size) (x : Extent) (e : RestIs (Ok x) f (parts_from s f F (mark_of s (f h)) true (F - 2) (head_link s (f h)))) where
     body_length : length (body_of s f (h ∷ later.slots)) ≡ s.size - head_overhead s + x.bytes
     unfolding body_of later
     body_length =
@@ -87,12 +87,12 @@ module _ (s : Settings) (f : View) (F h : ℕ) (m : s.multipart ≡ true) where
         ∙ ap (λ (n : ℕ). refuse 10 (not (eqb (total_of (f h)) n))) content_length
 
     -- the total is not the content's length
-    pub wrong_total : s.size - head_overhead s + x.bytes - prefix_len s ≢ total_of (f h) → ChainIs (Walked.Refused Refusal.Chain) s f (walk s f F h)
+    pub wrong_total : s.size - head_overhead s + x.bytes - prefix_len s ≢ total_of (f h) → ChainIs (Err Refusal.Chain) s f (walk s f F h)
     wrong_total ne = fault_is ∙ refuse_yes 10 _ (ap not (ne_eqb _ _ (λ p. ne (sym p))))
 
     -- it is
     pub whole_chain : s.size - head_overhead s + x.bytes - prefix_len s ≡ total_of (f h)
-        → ChainIs (Walked.Chain (record { parts = x.parts + 1; bytes = s.size - head_overhead s + x.bytes })) s f (walk s f F h)
+        → ChainIs (Ok (record { parts = x.parts + 1; bytes = s.size - head_overhead s + x.bytes })) s f (walk s f F h)
     unfolding with_total later
     whole_chain eq =
         let slots : (walk s f F h).slots ≡ h ∷ later.slots = ap (λ (v : Walk). v.slots) walk_is in
@@ -143,7 +143,7 @@ size_least s b m e =
     ltb-false (size_of b) (prefix_len s) (sym (and_skip (not s.multipart) _ (ap not m)) ∙ passed 9 _ (omega arith) t₂.0)
 
 one_part : (s : Settings) (f : View) (F h : ℕ) → 2 ≤ s.size → length (f h) ≡ s.size → head_fault s none 8 (f h) ≡ 0 → s.multipart ≡ false → (n : ℕ) → n ≡ size_of (f h)
-    → ChainIs (Walked.Chain (record { parts = 1; bytes = n })) s f (walk s f F h)
+    → ChainIs (Ok (record { parts = 1; bytes = n })) s f (walk s f F h)
 unfolding walk body_of sized_body
 one_part s f F h lo w g m n q =
     let is : walk s f F h ≡ whole (h ∷ []) = cond_no s.multipart _ _ m in
@@ -155,13 +155,13 @@ one_part s f F h lo w g m n q =
 
 -- a plain slot is a chain of one part
 pub plain_chain : (s : Settings) (f : View) (F h : ℕ) (k : PartKind) (n : ℕ) → 2 ≤ s.size → length (f h) ≡ s.size → part k n ≡ start_part s (f h) → head_fault s none 8 (f h) ≡ 0
-    → ((x : ℕ) → k ≡ Head x → ⊥) → ChainIs (Walked.Chain (record { parts = 1; bytes = n })) s f (walk s f F h)
+    → ((x : ℕ) → k ≡ Head x → ⊥) → ChainIs (Ok (record { parts = 1; bytes = n })) s f (walk s f F h)
 plain_chain s f F h k n lo w e g other = go k n (starts_with s (f h) k n e) other
   where
-    one : (n : ℕ) → s.multipart ≡ false → n ≡ size_of (f h) → ChainIs (Walked.Chain (record { parts = 1; bytes = n })) s f (walk s f F h)
+    one : (n : ℕ) → s.multipart ≡ false → n ≡ size_of (f h) → ChainIs (Ok (record { parts = 1; bytes = n })) s f (walk s f F h)
     one n m q = one_part s f F h lo w g m n q
 
-    go : (k : PartKind) (n : ℕ) → Starts s (f h) k n → ((x : ℕ) → k ≡ Head x → ⊥) → ChainIs (Walked.Chain (record { parts = 1; bytes = n })) s f (walk s f F h)
+    go : (k : PartKind) (n : ℕ) → Starts s (f h) k n → ((x : ℕ) → k ≡ Head x → ⊥) → ChainIs (Ok (record { parts = 1; bytes = n })) s f (walk s f F h)
     go (Head x) n t other = absurd (other x refl)
     go (Continuation x) n t other = absurd t
     go (Last x) n t other = one n t.0 t.1
@@ -169,12 +169,12 @@ plain_chain s f F h k n lo w e g other = go k n (starts_with s (f h) k n e) othe
 -- ---- the tests of a call
 
 module _ (s : Settings) (f : View) (h : ℕ) (key : Option (List ℕ)) where
-  pub slot_refused : slot_test f h ≡ 7 → ChainTested (Walked.Refused Refusal.Slot) s f h key
+  pub slot_refused : slot_test f h ≡ 7 → ChainTested (Err Refusal.Slot) s f h key
   slot_refused e = first_refuses 7 _ _ e (omega arith)
 
   module _ (z : h ≢ 0) (b : h < filled f) where
     -- the head is refused
-    pub head_refused : (r : Refusal) → refused (number_of r) ≡ head_parse s key 8 (f h) → ChainTested (Walked.Refused r) s f h key
+    pub head_refused : (r : Refusal) → refused (number_of r) ≡ head_parse s key 8 (f h) → ChainTested (Err r) s f h key
     head_refused r e = first_skip _ _ (slot_good f h z b) ∙ first_refuses (number_of r) _ _ (parse_fault s key 8 (f h) (refused (number_of r)) e) (number_some r)
 
     module _ (k : PartKind) (n : ℕ) (e : part k n ≡ head_parse s key 8 (f h)) where
@@ -186,6 +186,6 @@ module _ (s : Settings) (f : View) (h : ℕ) (key : Option (List ℕ)) where
       head_accepted = (parse_part s key 8 (f h) k n e, head_unkeyed s key (f h) passes)
 
       -- and the walk decides
-      pub walk_decides : (r : Walked) → ChainIs r s f (walk s f (filled f) h) → ChainTested r s f h key
-      walk_decides (Walked.Chain x) c = (first_skip _ _ (slot_good f h z b) ∙ first_skip _ _ passes ∙ first_one _ ∙ c.0, c.1, c.2)
-      walk_decides (Walked.Refused r) c = first_skip _ _ (slot_good f h z b) ∙ first_skip _ _ passes ∙ first_one _ ∙ c
+      pub walk_decides : (r : Result Extent Refusal) → ChainIs r s f (walk s f (filled f) h) → ChainTested r s f h key
+      walk_decides (Ok x) c = (first_skip _ _ (slot_good f h z b) ∙ first_skip _ _ passes ∙ first_one _ ∙ c.0, c.1, c.2)
+      walk_decides (Err r) c = first_skip _ _ (slot_good f h z b) ∙ first_skip _ _ passes ∙ first_one _ ∙ c

@@ -1,5 +1,6 @@
 -- The walk of the free list counts its members: after n members, at slot `at`, what is still to be walked gives the same count and
 -- the same fault as the whole list (`Counting`); each way out and the turn keep it.
+use Rattle.std.specs.Prelude.{Ok, Err}
 use mathlib.Core.Path.{◌≡◌, refl, sym, ap, ◌∙◌}
 use mathlib.Core.Logic.{◌≢◌}
 use mathlib.Core.Bool.{true, false}
@@ -8,7 +9,6 @@ use mathlib.Core.Option.{Option, none, some}
 use Prim.Native.Nat.{ℕ, suc, ◌+◌, ◌-◌, ◌≤◌, ◌<◌}
 use native.Mathlib.Omega.{arith}
 use lib.ListN.{length}
-use Rattle.definition.specs.declared.FreeCount.{FreeCount}
 use Rattle.definition.specs.declared.Refusal.{Refusal}
 use Rattle.definition.specs.Slots.{View, is_free, link_of}
 use Rattle.definition.specs.FreeList.{push, free_from, members_of}
@@ -45,17 +45,17 @@ is_some n (some l) e = (refl, omega arith)
 
 module _ (f : View) (F a at n : ℕ) (c : Counting f F a at n) where
   -- the list ends
-  pub ends : at ≡ 0 → FreeIs (FreeCount.Members n) (free_from f F (F - 1) a)
+  pub ends : at ≡ 0 → FreeIs (Ok n) (free_from f F (F - 1) a)
   unfolding code
   ends e = is_some n (free_from f F (F - 1) a) (let z : suc n ≡ suc (n + 0) = omega arith in z ∙ sym (ap (code n) (free_end f F (F - 1 - n) at e)) ∙ c.is)
 
-  stops : free_from f F (F - 1 - n) at ≡ none → FreeIs (FreeCount.Refused Refusal.FreeList) (free_from f F (F - 1) a)
+  stops : free_from f F (F - 1 - n) at ≡ none → FreeIs (Err Refusal.FreeList) (free_from f F (F - 1) a)
   unfolding code
   stops e = is_none (free_from f F (F - 1) a) (sym (ap (code n) e) ∙ c.is)
 
   module _ (nz : at ≢ 0) where
     -- FILLED - 1 members and no end
-    pub limit : n ≡ F - 1 → FreeIs (FreeCount.Refused Refusal.FreeList) (free_from f F (F - 1) a)
+    pub limit : n ≡ F - 1 → FreeIs (Err Refusal.FreeList) (free_from f F (F - 1) a)
     limit e = let k : F - 1 - n ≡ 0 = omega arith in stops (rw k (free_limit f F 0 at nz))
 
     module _ (more : n ≢ F - 1) where
@@ -63,10 +63,10 @@ module _ (f : View) (F a at n : ℕ) (c : Counting f F a at n) where
       step = omega (arith, c.most)
 
       -- a member not below FILLED, or not marked free
-      pub above : F ≤ at → FreeIs (FreeCount.Refused Refusal.FreeList) (free_from f F (F - 1) a)
+      pub above : F ≤ at → FreeIs (Err Refusal.FreeList) (free_from f F (F - 1) a)
       above h = stops (rw step (free_above f F (F - 1 - (n + 1)) at nz h))
 
-      pub unmarked : is_free (f at) ≡ false → FreeIs (FreeCount.Refused Refusal.FreeList) (free_from f F (F - 1) a)
+      pub unmarked : is_free (f at) ≡ false → FreeIs (Err Refusal.FreeList) (free_from f F (F - 1) a)
       unmarked m = stops (rw step (free_unmarked f F (F - 1 - (n + 1)) at nz m))
 
       -- a member: on along its link

@@ -1,5 +1,6 @@
 -- The walk of later parts counts parts and bytes: after n parts that hold k bytes, at slot `at`, what is still to be walked gives the
 -- same fault, parts and bytes as the whole walk (`Tallied`); each way out and the turn keep it.
+use Rattle.std.specs.Prelude.{Ok, Err}
 use mathlib.Core.Path.{◌≡◌, refl, sym, ap, ap₂, ◌∙◌, subst}
 use mathlib.Core.Bool.{Bool, true, false, ◌||◌}
 use mathlib.Core.List.{List, [], ◌∷◌}
@@ -21,7 +22,6 @@ use Rattle.laws.proofs.Lists.{length_part}
 use Rattle.laws.proofs.Views.{apart}
 use Rattle.laws.proofs.Turns.{last_small, part_limit, part_unlinked, part_above, part_at}
 use Rattle.laws.proofs.Chains.{RestAt, rest_walk}
-use Rattle.walks.specs.declared.Walked.{Walked}
 use Rattle.walks.specs.Met.{RestIs}
 
 -- ---- what a look at a later part says
@@ -126,12 +126,12 @@ some_slot s f F mark after n a e = go (parts_from s f F mark after n a).slots (r
 
 module _ (s : Settings) (f : View) (F a : ℕ) (mark : Bool) (at n k : ℕ) (c : Tallied s f F a mark at n k) where
   -- the walk stops with this refusal
-  stops : (r : Refusal) → parts_from s f F mark (eqb n 0) (F - 2 - n) at ≡ stopped (number_of r) → RestIs (Walked.Refused r) f (parts_from s f F mark true (F - 2) a)
+  stops : (r : Refusal) → parts_from s f F mark (eqb n 0) (F - 2 - n) at ≡ stopped (number_of r) → RestIs (Err r) f (parts_from s f F mark true (F - 2) a)
   unfolding tally
   stops r e = is_fault f (number_of r) (parts_from s f F mark true (F - 2) a).fault _ (stopped_tally f n k (number_of r) (number_some r) ∙ sym (ap (tally f n k) e) ∙ c.is)
 
   -- FILLED - 1 parts with the head, and no last part
-  pub limit : F - 2 ≤ n → RestIs (Walked.Refused Refusal.Chain) f (parts_from s f F mark true (F - 2) a)
+  pub limit : F - 2 ≤ n → RestIs (Err Refusal.Chain) f (parts_from s f F mark true (F - 2) a)
   limit h = let z : F - 2 - n ≡ 0 = omega arith in stops Refusal.Chain (rw z (part_limit s f F mark (eqb n 0) at))
 
   module _ (more : n < F - 2) where
@@ -139,10 +139,10 @@ module _ (s : Settings) (f : View) (F a : ℕ) (mark : Bool) (at n k : ℕ) (c :
     step = omega arith
 
     -- a link 0 or not below FILLED
-    pub unlinked : at ≡ 0 → RestIs (Walked.Refused Refusal.Chain) f (parts_from s f F mark true (F - 2) a)
+    pub unlinked : at ≡ 0 → RestIs (Err Refusal.Chain) f (parts_from s f F mark true (F - 2) a)
     unlinked e = stops Refusal.Chain (rw step (part_unlinked s f F mark (eqb n 0) (F - 2 - (n + 1)) at e))
 
-    pub above : F ≤ at → RestIs (Walked.Refused Refusal.Chain) f (parts_from s f F mark true (F - 2) a)
+    pub above : F ≤ at → RestIs (Err Refusal.Chain) f (parts_from s f F mark true (F - 2) a)
     above h = stops Refusal.Chain (rw step (part_above s f F mark (eqb n 0) (F - 2 - (n + 1)) at h))
 
     module _ (p : 0 < at) (q : at < F) where
@@ -152,7 +152,7 @@ module _ (s : Settings) (f : View) (F a : ℕ) (mark : Bool) (at n k : ℕ) (c :
           ∙ ap (λ (y : Parse). onward at y (parts_from s f F mark false (F - 2 - (n + 1)) (link_of (f at)))) (sym e)
 
       -- the part is refused
-      pub bad_part : (r : Refusal) → refused (number_of r) ≡ later_parse s mark (eqb n 0) (f at) → RestIs (Walked.Refused r) f (parts_from s f F mark true (F - 2) a)
+      pub bad_part : (r : Refusal) → refused (number_of r) ≡ later_parse s mark (eqb n 0) (f at) → RestIs (Err r) f (parts_from s f F mark true (F - 2) a)
       unfolding onward
       bad_part r e = stops r (looked (refused (number_of r)) e)
 
@@ -162,7 +162,7 @@ module _ (s : Settings) (f : View) (F a : ℕ) (mark : Bool) (at n k : ℕ) (c :
 
       -- a last part ends the walk
       pub last : (x m : ℕ) → 2 ≤ s.size → length (f at) ≡ s.size → part (Last x) m ≡ later_parse s mark (eqb n 0) (f at)
-          → RestIs (Walked.Chain (record { parts = n + 1; bytes = k + m })) f (parts_from s f F mark true (F - 2) a)
+          → RestIs (Ok (record { parts = n + 1; bytes = k + m })) f (parts_from s f F mark true (F - 2) a)
       unfolding onward is_last tally tallied rest_body sized_body
       last x m lo w e =
           let t = subst (Says s (f at)) (sym e) (says s mark (eqb n 0) (f at)) in

@@ -4,12 +4,13 @@ ghost use Rattle.std.proofs.Math.Option.{none};
 ghost use Rattle.definition.specs.Settings.{head_overhead};
 ghost use Rattle.definition.specs.Slots.{view, head_link};
 ghost use Rattle.definition.specs.Chains.{part, head_fault, start_part, parts_from, walk};
+ghost use Rattle.definition.specs.Calls.{checked_key_test};
 ghost use Rattle.slots.specs.Keys.{lent_key};
 ghost use Rattle.walks.specs.Met.{RestIs, ChainIs, ChainTested};
 
 use crate::Extent;
-use definition::{KEY_SIZE, Part, PartKind, Refusal};
-use reader::Table;
+use definition::{Part, PartKind, Refusal};
+use reader::{Table, read_total};
 
 // The later parts from slot `start` on: each link, then each part, at most FILLED - 2 of them.
 fn walk_rest(table: &Table, start: u64) -> Result<Extent, Refusal>
@@ -51,7 +52,7 @@ fn walk_parts(table: &Table, at: u64, n: usize, next: u64) -> Result<Extent, Ref
 {
     let rest = walk_rest(table, next)?;
     let bytes = n + rest.bytes;
-    if (bytes - table.layout.settings.prefix_len()) as u64 != table.slot(at).total() {
+    if (bytes - table.layout.settings.prefix_len()) as u64 != read_total(table.slot(at).bytes) {
         return Err(Refusal::Chain);
     }
     Ok(Extent {
@@ -77,8 +78,9 @@ fn walk_chain(table: &Table, at: u64, start: Part) -> Result<Extent, Refusal>
 }
 
 // The tests of a call on the chain in slot `at`, in order: the slot (7), its head (8, 9), its parts (9, 10), its total (10).
-pub fn check_chain(table: &Table, at: u64, key: Option<&[u8; KEY_SIZE]>) -> Result<Extent, Refusal>
-    ensures { ChainTested result table.now.layout.settings (view table.now.layout.settings.size table.now.bytes.now) at (lent_key key) }
+pub fn check_chain(table: &Table, at: u64, key: Option<&[u8]>) -> Result<Extent, Refusal>
+    requires { checked_key_test table.now.layout.settings (lent_key key) ≡ 0 }
+    ensures { ChainTested result table.now.layout.settings (view table.now.layout.settings.size table.now.bytes.now) at (lent_key key.entry) }
 {
     let start = table.record_slot(at)?.parse_head(key, Refusal::Absent)?;
     walk_chain(table, at, start)

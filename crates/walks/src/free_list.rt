@@ -1,30 +1,33 @@
 // The walk of the free list, as the Rust's check_free_refs; here it also tests each member's mark, and it always ends.
-ghost use Rattle.std.specs.Prelude.{◌≡◌, ◌-◌};
+ghost use Rattle.std.specs.Prelude.{◌≡◌, ◌-◌, ◌*◌, ◌≤◌, ◌<◌, length};
 ghost use Rattle.definition.specs.Slots.{view};
 ghost use Rattle.definition.specs.FreeList.{free_from};
 ghost use Rattle.walks.specs.Met.{FreeIs};
 
-use definition::Refusal;
-use reader::Table;
+use definition::{Header, Refusal};
+use reader::{Slot, is_free, read_next};
+use slots::layout::Layout;
 
 // The members of the free list, or refusal 11: a member not below FILLED or not marked free, or no end after FILLED - 1 members.
-pub fn check_free_refs(table: &Table) -> Result<u64, Refusal>
-    ensures { FreeIs result (free_from (view table.now.layout.settings.size table.now.bytes.now) table.now.header.filled (table.now.header.filled - 1) table.now.header.removed) }
+// It is promised of any header, and a `Table` has its own: so the three stay parameters.
+pub fn check_free_refs(table: &[u8], layout: Layout, h: Header) -> Result<u64, Refusal>
+    requires { (h.filled * layout.settings.size ≤ length table.now) × (0 < h.filled) }
+    ensures { FreeIs result (free_from (view layout.settings.size table.now) h.filled (h.filled - 1) h.removed) }
 {
-    let most = table.header.filled - 1;
-    let mut at = table.header.removed;
+    let most = h.filled - 1;
+    let mut at = h.removed;
     for members in 0..most {
         if at == 0 {
             return Ok(members);
         }
-        if at >= table.header.filled {
+        if at >= h.filled {
             return Err(Refusal::FreeList);
         }
-        let slot = table.slot(at);
-        if !slot.is_free() {
+        let slot = Slot::of(table, layout, at);
+        if !is_free(slot.bytes) {
             return Err(Refusal::FreeList);
         }
-        at = slot.next();
+        at = read_next(slot.bytes);
     }
     if at == 0 {
         Ok(most)

@@ -1,9 +1,9 @@
-// One slot written: each kind of slot laid over its front.
+// One slot written: each kind of slot laid over its front, and the same in slot i of a table, where every other byte stays.
 #![tactic(auto)]
 
 pub mod body;
 
-ghost use Rattle.std.specs.Prelude.{◌≡◌, cond, ◌+◌, ◌-◌, ◌≤◌, ◌<◌, length, take, drop};
+ghost use Rattle.std.specs.Prelude.{◌≡◌, cond, ◌+◌, ◌-◌, ◌*◌, ◌≤◌, ◌<◌, length, take, drop};
 ghost use Rattle.definition.specs.Numbers.{put};
 ghost use Rattle.definition.specs.Settings.{word_bytes, link_overhead, head_overhead};
 ghost use Rattle.definition.specs.Parts.{sized_part, continuation_part, head_part, free_slot};
@@ -13,6 +13,7 @@ ghost use Rattle.writer.specs.Bodies.{body_of};
 pub use body::Body;
 use definition::{COMPRESSED_MASK, INDEX_SIZE, SIZE_SIZE, Settings};
 use numbers::{Number, write_mark};
+use slots::layout::Layout;
 
 // A free slot: ff ff and the link.
 pub fn write_free(slot: &mut [u8], next: u64)
@@ -69,4 +70,60 @@ pub fn write_sized(slot: &mut [u8], mark: bool, body: &Body, pos: usize)
     let n = body.len() - pos;
     size_word(n as u16, mark).write(slot, 0);
     body.copy_to(pos, &mut slot[SIZE_SIZE..SIZE_SIZE + n]);
+}
+
+// ---- the same in slot i of a table
+
+// A free slot in slot i.
+pub fn store_free(table: &mut [u8], layout: Layout, i: u64, next: u64)
+    requires { i * layout.settings.size + layout.settings.size ≤ length table.old }
+    ensures { table.new ≡ put table.old (i * layout.settings.size) (free_slot next) }
+{
+    write_free(&mut table[layout.slot(i)], next);
+}
+
+// A continuation in slot i.
+pub fn store_continuation(
+    table: &mut [u8],
+    layout: Layout,
+    i: u64,
+    next: u64,
+    body: &Body,
+    pos: usize,
+)
+    requires { (i * layout.settings.size + layout.settings.size ≤ length table.old) × (pos + (layout.settings.size - link_overhead) ≤ length (body_of body.now)) }
+    ensures { table.new ≡ put table.old (i * layout.settings.size) (continuation_part next (take (layout.settings.size - link_overhead) (drop pos (body_of body.now)))) }
+{
+    write_continuation(&mut table[layout.slot(i)], next, body, pos);
+}
+
+// A head in slot i.
+pub fn store_head(
+    table: &mut [u8],
+    layout: Layout,
+    i: u64,
+    mark: bool,
+    total: u64,
+    next: u64,
+    body: &Body,
+)
+    requires { (i * layout.settings.size + layout.settings.size ≤ length table.old) × (layout.settings.size - head_overhead layout.settings ≤ length (body_of body.now)) }
+    ensures { table.new ≡ put table.old (i * layout.settings.size) (head_part layout.settings mark total next (take (layout.settings.size - head_overhead layout.settings) (body_of body.now))) }
+{
+    write_head(
+        &mut table[layout.slot(i)],
+        layout.settings,
+        mark,
+        total,
+        next,
+        body,
+    );
+}
+
+// A plain slot or a last part in slot i.
+pub fn store_sized(table: &mut [u8], layout: Layout, i: u64, mark: bool, body: &Body, pos: usize)
+    requires { (i * layout.settings.size + layout.settings.size ≤ length table.old) × (pos ≤ length (body_of body.now)) × (length (body_of body.now) - pos ≤ layout.settings.size - word_bytes) }
+    ensures { table.new ≡ put table.old (i * layout.settings.size) (sized_part mark (drop pos (body_of body.now))) }
+{
+    write_sized(&mut table[layout.slot(i)], mark, body, pos);
 }

@@ -16,10 +16,10 @@ ghost use Rattle.writes.specs.Steps.{next_part, taken_from, freed_onto, linked_p
 ghost use Rattle.writes.specs.Ready.{Fit, Ready, Freeing};
 
 use definition::{Header, INDEX_SIZE, SIZE_SIZE};
-use reader::Slot;
+use reader::{Slot, is_continuation, is_head, read_head_next, read_next};
 use slots::header::write_header;
 use slots::layout::Layout;
-use writer::{Body, write_continuation, write_free, write_head, write_sized};
+use writer::{Body, store_continuation, store_free, store_head, store_sized};
 
 // A slot that was taken; then the old chain's next slot, 0 if there is none, and LAST_REMOVED and FILLED.
 #[derive(Clone, Copy)]
@@ -33,14 +33,15 @@ struct Taken {
 fn next_part(slot: &Slot) -> u64
     ensures { result ≡ next_part slot.now.layout.settings slot.now.bytes.now }
 {
-    if !slot.layout.settings.multipart {
+    let s = slot.layout.settings;
+    if !s.multipart {
         return 0;
     }
-    if slot.is_head() {
-        return slot.head_next();
+    if is_head(slot.bytes) {
+        return read_head_next(slot.bytes, s);
     }
-    if slot.is_continuation() {
-        return slot.next();
+    if is_continuation(slot.bytes) {
+        return read_next(slot.bytes);
     }
     0
 }
@@ -63,7 +64,7 @@ fn next_free(table: &[u8], layout: Layout, at: u64, h: Header) -> Taken
             slot: h.removed,
             rest: 0,
             header: Header {
-                removed: Slot::of(table, layout, h.removed).next(),
+                removed: read_next(Slot::of(table, layout, h.removed).bytes),
                 ..h
             },
         };
@@ -83,7 +84,7 @@ fn clear_slot(table: &mut [u8], layout: Layout, i: u64, h: Header) -> Header
     requires { i * layout.settings.size + layout.settings.size ≤ length table.old }
     ensures { (table.new ≡ put table.old (i * layout.settings.size) (free_slot h.removed)) × (result ≡ freed_onto i h) }
 {
-    write_free(&mut table[layout.slot(i)], h.removed);
+    store_free(table, layout, i, h.removed);
     Header { removed: i, ..h }
 }
 
@@ -120,12 +121,19 @@ fn store_linked(
         × (result ≡ place_after layout.settings pos) }
 {
     let s = layout.settings;
-    let slot = &mut table[layout.slot(i)];
     if pos == 0 {
-        write_head(slot, s, mark, body.content.len() as u64, next, body);
+        store_head(
+            table,
+            layout,
+            i,
+            mark,
+            body.content.len() as u64,
+            next,
+            body,
+        );
         return s.size - s.head_overhead();
     }
-    write_continuation(slot, next, body, pos);
+    store_continuation(table, layout, i, next, body, pos);
     pos + (s.size - (SIZE_SIZE + INDEX_SIZE))
 }
 
@@ -155,7 +163,7 @@ fn overwrite_chain(
         pos = store_linked(table, layout, to.slot, mark, next.slot, body, pos);
         to = next;
     }
-    write_sized(&mut table[layout.slot(to.slot)], mark, body, pos);
+    store_sized(table, layout, to.slot, mark, body, pos);
     clear_chain(table, layout, to.rest, to.header, same);
     first.slot
 }
