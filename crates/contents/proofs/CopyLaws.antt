@@ -1,13 +1,12 @@
 -- A copy of part of a chain's bytes, piece by piece: what is copied of one piece and then of the rest is what is copied of both
 -- (`split_copy`), and after the piece in hand the later parts are left to copy (`onward`).
-use mathlib.Core.Path.{◌≡◌, refl, sym, ap, ap₂, ◌∙◌}
+use mathlib.Core.Path.{◌≡◌, refl, sym, ap, ◌∙◌}
 use mathlib.Core.Bool.{Bool, true, false}
 use mathlib.Core.List.{List, [], ◌∷◌, ◌++◌, append-nil}
 use Prim.Native.Nat.{ℕ, ◌+◌, ◌-◌, ◌*◌, ◌≤◌, ◌<◌, min}
-use native.Mathlib.Decide.{dec_le}
 use native.Mathlib.Omega.{arith}
-use lib.ListN.{length, take, drop, length-append, length-drop, drop_of_length-le}
-use lib.Seq.{take_all, drop-append-le}
+use Rattle.std.proofs.lemmas.List.{take_min, drop_min}
+use lib.ListN.{length, take, drop, length-append, length-drop}
 use Rattle.definition.specs.declared.Settings.{Settings}
 use Rattle.definition.specs.Numbers.{put}
 use Rattle.definition.specs.Settings.{bad_settings}
@@ -25,37 +24,19 @@ use Rattle.contents.specs.Pieces.{part_piece, part_next, PartFits, Parts, Copyin
 
 -- ---- one piece, and the rest
 
--- taking n of a list takes as many as it has
-front : (n j : ℕ) (q : List ℕ) → j ≡ min (length q) n → take n q ≡ take j q
-front n j q e = go (dec_le (length q) n)
-  where
-    go : Dec (length q ≤ n) → take n q ≡ take j q
-    go (yes h) = take_all n q h ∙ sym (take_all j q (omega arith))
-    go (no h) = let z : j ≡ n = omega arith in rw z refl
-
--- what is left of n once as many of m as fit were taken
-left_over_lem : (m n c : ℕ) → c ≡ min m n → n - m ≡ n - c
-left_over_lem m n c e = omega arith
-
 module _ (p r : List ℕ) (from n k c : ℕ) (h : k ≡ min from (length p)) (g : c ≡ min (length p - k) n) (enough : from + n ≤ length (p ++ r)) where
   pub shares : (k ≤ from) × (c ≤ n) × (k + c ≤ length p) × (from - k + (n - c) ≤ length r)
   shares = (omega arith, omega arith, omega arith, omega (arith, length-append p r))
 
   -- the bytes wanted are those of the piece, then those of the rest
   wanted : take n (drop from (p ++ r)) ≡ take c (drop k p) ++ take (n - c) (drop (from - k) r)
-  wanted = go (dec_le (length p) from)
-    where
-      go : Dec (length p ≤ from) → take n (drop from (p ++ r)) ≡ take c (drop k p) ++ take (n - c) (drop (from - k) r)
-      go (yes q) =
-          let kp : k ≡ length p = omega arith in
-          let cz : c ≡ 0 = omega arith in
-          rw (cz, kp) (ap (take n) (drop_append from p r ∙ ap (λ (l : List ℕ). l ++ drop (from - length p) r) (drop_of_length-le p q)) ∙ (let w : n ≡ n - 0 = omega arith in ap (λ (j : ℕ). take j (drop (from - length p) r)) w))
-      go (no q) =
-          let kf : k ≡ from = omega arith in
-          let fz : from - k ≡ 0 = omega arith in
-          let cq : c ≡ min (length (drop from p)) n = g ∙ ap (λ (j : ℕ). min j n) (ap (λ (i : ℕ). length p - i) kf ∙ sym (length-drop from p)) in
-          rw (fz, kf) (ap (take n) (drop-append-le from p r (omega arith)) ∙ take_append n (drop from p) r
-          ∙ ap₂ (λ (x : List ℕ) (j : ℕ). x ++ take j r) (front n c (drop from p) cq) (left_over_lem (length (drop from p)) n c cq))
+  wanted =
+      let some : c ≡ min n (length (drop k p)) = omega (arith, length-drop k p) in
+      let here : take c (drop k p) ≡ take n (drop from p) =
+      ap (λ (i : ℕ). take i (drop k p)) some ∙ take_min n (drop k p) ∙ ap (λ (i : ℕ). take n (drop i p)) h ∙ ap (take n) (drop_min from p) in
+      let passed : from - k ≡ from - length p = omega arith in
+      let more : n - c ≡ n - length (drop from p) = omega (arith, length-drop from p) in
+      rw (here, passed, more, drop_append, take_append) refl
 
   -- put one after the other they are one put
   pub split_copy : (out : List ℕ) (to : ℕ) → to + n ≤ length out

@@ -81,9 +81,6 @@ module _ (s : Settings) (t : List ℕ) (at from n : ℕ) (out : List ℕ) (pre :
   open_table : Opened s (view s.size t) (capacity s t)
   open_table = opened s (view s.size t) (capacity s t) pre.table
 
-  slots : List ℕ
-  slots = (walk s (view s.size t) (filled (view s.size t)) at).slots
-
   pub start : Start s t at (walk s (view s.size t) (filled (view s.size t)) at).slots
   start =
       let f = view s.size t in

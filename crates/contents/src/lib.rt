@@ -30,7 +30,7 @@ fn sized_piece<'a>(slot: &Slot<'a>) -> Piece<'a>
 }
 
 // The piece in the slot where a chain starts.
-#[tactic(auto, using(laws::proofs::Overheads::overhead_bounds, laws::proofs::Conditions::cond_yes, laws::proofs::Conditions::cond_no), unfolding(crate::specs::Pieces::start_piece, crate::specs::Pieces::start_next))]
+#[tactic(auto, using(laws::proofs::Overheads::overhead_bounds), unfolding(crate::specs::Pieces::start_piece, crate::specs::Pieces::start_next))]
 fn start_piece<'a>(slot: &Slot<'a>) -> Piece<'a>
     requires { StartFits slot.now.layout.settings slot.now.bytes.now }
     ensures { (result.bytes.now ≡ start_piece slot.now.layout.settings slot.now.bytes.now) × (result.next ≡ start_next slot.now.layout.settings slot.now.bytes.now) }
@@ -46,7 +46,7 @@ fn start_piece<'a>(slot: &Slot<'a>) -> Piece<'a>
 }
 
 // The piece in a later part.
-#[tactic(auto, using(laws::proofs::Conditions::cond_yes, laws::proofs::Conditions::cond_no), unfolding(crate::specs::Pieces::part_piece, crate::specs::Pieces::part_next))]
+#[tactic(auto, unfolding(crate::specs::Pieces::part_piece, crate::specs::Pieces::part_next))]
 fn part_piece<'a>(slot: &Slot<'a>) -> Piece<'a>
     requires { PartFits slot.now.bytes.now }
     ensures { (result.bytes.now ≡ part_piece slot.now.bytes.now) × (result.next ≡ part_next slot.now.bytes.now) }
@@ -60,8 +60,8 @@ fn part_piece<'a>(slot: &Slot<'a>) -> Piece<'a>
     }
 }
 
-// Of n bytes that begin in a piece, after its first `skip`, copies those that lie in it into out at `to`: how many bytes of the piece
-// were passed over, and how many copied.
+// Passes over `skip` bytes and copies n into out at `to`, as far as the piece goes. It answers how many bytes it passed over, and how
+// many it copied: what is left lies in later parts.
 #[tactic(auto, using(laws::proofs::Puts::lent))]
 fn copy_piece(piece: &[u8], skip: usize, n: usize, out: &mut [u8], to: usize) -> (usize, usize)
     requires { to + n ≤ length out.old }
