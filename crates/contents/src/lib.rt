@@ -1,7 +1,7 @@
 // The content of a chain copied out: any number of its bytes, from any place in it on.
 #![tactic(auto)]
 
-ghost use Rattle.std.specs.Prelude.{◌≡◌, List, ℕ, ◌+◌, ◌≤◌, length, take, drop};
+ghost use Rattle.std.specs.Prelude.{◌≡◌, List, ℕ, ◌+◌, ◌-◌, ◌≤◌, min, length, take, drop};
 ghost use Rattle.definition.specs.Numbers.{put};
 ghost use Rattle.definition.specs.Chains.{sized_body};
 ghost use Rattle.contents.specs.Pieces.{SizeFits, StartFits, PartFits, start_piece, start_next, part_piece, part_next, content_at, Copying, Copyable};
@@ -18,6 +18,7 @@ struct Piece<'a> {
 }
 
 // A plain slot, or a last part: as many bytes as its size word counts.
+#[tactic(auto, unfolding(definition::specs::Chains::sized_body))]
 fn sized_piece<'a>(slot: &Slot<'a>) -> Piece<'a>
     requires { SizeFits slot.now.bytes.now }
     ensures { (result.bytes.now ≡ sized_body slot.now.bytes.now) × (result.next ≡ 0) }
@@ -29,6 +30,7 @@ fn sized_piece<'a>(slot: &Slot<'a>) -> Piece<'a>
 }
 
 // The piece in the slot where a chain starts.
+#[tactic(auto, using(laws::proofs::Overheads::overhead_bounds), unfolding(crate::specs::Pieces::start_piece, crate::specs::Pieces::start_next))]
 fn start_piece<'a>(slot: &Slot<'a>) -> Piece<'a>
     requires { StartFits slot.now.layout.settings slot.now.bytes.now }
     ensures { (result.bytes.now ≡ start_piece slot.now.layout.settings slot.now.bytes.now) × (result.next ≡ start_next slot.now.layout.settings slot.now.bytes.now) }
@@ -44,6 +46,7 @@ fn start_piece<'a>(slot: &Slot<'a>) -> Piece<'a>
 }
 
 // The piece in a later part.
+#[tactic(auto, unfolding(crate::specs::Pieces::part_piece, crate::specs::Pieces::part_next))]
 fn part_piece<'a>(slot: &Slot<'a>) -> Piece<'a>
     requires { PartFits slot.now.bytes.now }
     ensures { (result.bytes.now ≡ part_piece slot.now.bytes.now) × (result.next ≡ part_next slot.now.bytes.now) }
@@ -55,6 +58,21 @@ fn part_piece<'a>(slot: &Slot<'a>) -> Piece<'a>
         bytes: &slot.bytes[SIZE_SIZE + INDEX_SIZE..],
         next: read_next(slot.bytes),
     }
+}
+
+// Passes over `skip` bytes and copies n into out at `to`, as far as the piece goes. It answers how many bytes it passed over, and how
+// many it copied: what is left lies in later parts.
+#[tactic(auto, using(laws::proofs::Puts::lent))]
+fn copy_piece(piece: &[u8], skip: usize, n: usize, out: &mut [u8], to: usize) -> (usize, usize)
+    requires { to + n ≤ length out.old }
+    ensures passed { result.0 ≡ min skip (length piece.now) }
+    ensures copied { result.1 ≡ min (length piece.now - result.0) n }
+    ensures laid { out.new ≡ put out.old to (take result.1 (drop result.0 piece.now)) }
+{
+    let k = skip.min(piece.len());
+    let c = (piece.len() - k).min(n);
+    out[to..to + c].copy_from_slice(&piece[k..k + c]);
+    (k, c)
 }
 
 // Copies n bytes of the later parts from slot `start` on, after the first `from` of them, into out at `to`.
@@ -76,13 +94,11 @@ fn copy_rest(
     let mut pos = to;
     while left > 0 {
         let piece = part_piece(&Slot::of(table, layout, at));
-        let k = piece.bytes.len().min(skip);
-        let c = (piece.bytes.len() - k).min(left);
-        out[pos..pos + c].copy_from_slice(&piece.bytes[k..k + c]);
+        let (passed, copied) = copy_piece(piece.bytes, skip, left, out, pos);
         at = piece.next;
-        skip -= k;
-        left -= c;
-        pos += c;
+        skip -= passed;
+        left -= copied;
+        pos += copied;
     }
 }
 
@@ -93,8 +109,14 @@ pub fn copy_content(table: &[u8], layout: Layout, at: u64, from: usize, n: usize
 {
     let piece = start_piece(&Slot::of(table, layout, at));
     let skip = layout.settings.prefix_len() + from;
-    let k = piece.bytes.len().min(skip);
-    let c = (piece.bytes.len() - k).min(n);
-    out[..c].copy_from_slice(&piece.bytes[k..k + c]);
-    copy_rest(table, layout, piece.next, skip - k, n - c, out, c);
+    let (passed, copied) = copy_piece(piece.bytes, skip, n, out, 0);
+    copy_rest(
+        table,
+        layout,
+        piece.next,
+        skip - passed,
+        n - copied,
+        out,
+        copied,
+    );
 }
