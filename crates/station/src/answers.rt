@@ -164,5 +164,5 @@ pub fn number_in(answer: Result<(), Refusal>) -> u32
 pub fn key_if<'a>(checked: bool, key: &'a [u8]) -> Option<&'a [u8]>
     ensures { lent_key result ≡ checked_key checked key.now }
 {
-    if checked { Some(key) } else { None }
+    checked.then_some(key)
 }

@@ -13,7 +13,7 @@ pub use answers::{
     PyltarkaChanged, PyltarkaCounted, PyltarkaInserted, PyltarkaPart, PyltarkaRecord,
     PyltarkaSettings,
 };
-use definition::Settings;
+use definition::{SIZE_SIZE, Settings};
 
 // Stores a record under a key with its content and compressed mark; answers the slot of its head.
 pub fn pyltarka_insert(
@@ -93,7 +93,7 @@ pub fn pyltarka_read_fixed(
     let own = Settings::from(s);
     match table::find_fixed(table, own, slot, key_if(checked, key)) {
         Ok(record) => {
-            let start = (slot as usize) * own.size + definition::SIZE_SIZE + own.prefix_len();
+            let start = (slot as usize) * own.size + SIZE_SIZE + own.prefix_len();
             PyltarkaPart {
                 offset: start as u64,
                 length: record.len,
