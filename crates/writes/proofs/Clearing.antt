@@ -12,7 +12,6 @@ use lib.ListN.{length}
 use Rattle.definition.specs.declared.Settings.{Settings}
 use Rattle.definition.specs.declared.Header.{Header}
 use Rattle.definition.specs.Numbers.{put}
-use Rattle.definition.specs.Settings.{link_bytes}
 use Rattle.definition.specs.Slots.{View, view, store}
 use Rattle.definition.specs.Parts.{free_slot, free_stores}
 use Rattle.definition.specs.Effect.{header_store}
@@ -52,13 +51,9 @@ pub record Clearing (s : Settings) (same : Bool) (T t : List ℕ) (at : ℕ) (h 
   pub freeing : Freeing s t old free at h
   pub left : store s.size t (clear_stores same old free h.filled) ≡ T
 
--- the slot lies in the table, and so does the header
-module _ (s : Settings) (t old free : List ℕ) (at : ℕ) (h : Header) (g : Freeing s t old free at h) where
-  slot_inside : at * s.size + s.size ≤ length t
-  slot_inside = within s.size at h.filled (length t) (linked_below (next_part s) (view s.size t) h.filled at old g.some g.links) g.room
-
-  header_fits : link_bytes + link_bytes ≤ length t
-  header_fits = omega (arith, within s.size 0 h.filled (length t) g.some g.room, (sizes s g.good).least)
+-- the slot lies in the table
+slot_inside : (s : Settings) (t old free : List ℕ) (at : ℕ) (h : Header) → Freeing s t old free at h → at * s.size + s.size ≤ length t
+slot_inside s t old free at h g = within s.size at h.filled (length t) (linked_below (next_part s) (view s.size t) h.filled at old g.some g.links) g.room
 
 -- the slots still to be freed, counted by their links
 clear_count : (s : Settings) (t old free : List ℕ) (at : ℕ) (h : Header) → Freeing s t old free at h
@@ -147,9 +142,6 @@ module _ {s : Settings} {t : List ℕ} {at : ℕ} {h : Header} (same : Bool) whe
 module _ {s : Settings} {same : Bool} {t₀ : List ℕ} {at₀ : ℕ} {h₀ : Header} {t : List ℕ} {at : ℕ} {h : Header} (k : Kept s same t₀ at₀ h₀ t at h) where
   pub kept_slot : at * s.size + s.size ≤ length t
   kept_slot = slot_inside s t k.here.1.old k.here.1.free at h k.here.1.freeing
-
-  pub kept_header : link_bytes + link_bytes ≤ length t
-  kept_header = header_fits s t k.here.1.old k.here.1.free at h k.here.1.freeing
 
   pub kept_turn : {n : ℕ} {t' : List ℕ} {h' : Header} → at ≢ 0 → n ≡ next_part s (view s.size t at) → t' ≡ put t (at * s.size) (free_slot h.removed)
       → h' ≡ freed_onto at h

@@ -167,17 +167,6 @@ module _ (s : Settings) (same : Bool) (body t old free : List ℕ) (at : ℕ) (h
         left = rw (r.stays, n, p.is, k.slot, k.filled) (ap (store s.size t) (sym (still_start s mark total p.piece p.more old free F)));
       }
 
-  begin_asks : Asked s t at h
-  begin_asks = next_asks s t old free at (length (pieces s body)) h r.some r.old_links r.free_links r.room
-
-  begin_slot : (y : Taken) → y ≡ taken_from s (view s.size t) at h → y.slot ≡ head_d (new_slots old free h.filled (length (pieces s body))) 0
-  unfolding head_d
-  begin_slot y ey =
-      let f : View = view s.size t in
-      let k : Next s f old free h.filled y = rw ey (taken_next s f old free at h r.some r.old_links r.free_links) in
-      let p = first_piece s body fit in
-      k.slot ∙ sym (ap (λ (l : List (List ℕ)). head_d (new_slots old free h.filled (length l)) 0) p.is ∙ ap (λ (l : List ℕ). head_d l 0) (new_next old free h.filled (length p.more)))
-
 -- ---- a turn, and the last part
 
 -- t was the table before the last part was stored and t' is the one after it: what is left of the old chain is to be freed
@@ -280,7 +269,7 @@ pub record Laid (s : Settings) (mark : Bool) (total : ℕ) (same : Bool) (body t
 
 module _ {s : Settings} {same : Bool} {body t : List ℕ} {at : ℕ} {h : Header} (may : Fit s body × ((old : List ℕ) × (free : List ℕ) × Ready s same body t old free at h)) where
   pub first_asks : Asked s t at h
-  first_asks = begin_asks s same body t may.1.0 may.1.1 at h may.0 may.1.2
+  first_asks = let r = may.1.2 in next_asks s t may.1.0 may.1.1 at (length (pieces s body)) h r.some r.old_links r.free_links r.room
 
   pub laid_start : (mark : Bool) (total : ℕ) {y : Taken} → y ≡ taken_from s (view s.size t) at h → Laid s mark total same body t at h t 0 y
   laid_start mark total {y} e = record { fit = may.0; here = (_, each may.1.0 may.1.1 may.1.2); each = each }
@@ -291,7 +280,11 @@ module _ {s : Settings} {same : Bool} {body t : List ℕ} {at : ℕ} {h : Header
   -- the slot that is answered
   pub first_slot : {old free : List ℕ} → Ready s same body t old free at h → {y : Taken} → y ≡ taken_from s (view s.size t) at h
       → y.slot ≡ head_d (new_slots old free h.filled (length (pieces s body))) 0
-  first_slot {old} {free} r {y} e = begin_slot s same body t old free at h may.0 r y e
+  unfolding head_d
+  first_slot {old} {free} r {y} e =
+      let k : Next s (view s.size t) old free h.filled y = rw e (taken_next s (view s.size t) old free at h r.some r.old_links r.free_links) in
+      let p = first_piece s body may.0 in
+      k.slot ∙ sym (ap (λ (l : List (List ℕ)). head_d (new_slots old free h.filled (length l)) 0) p.is ∙ ap (λ (l : List ℕ). head_d l 0) (new_next old free h.filled (length p.more)))
 
 module _ {s : Settings} {mark : Bool} {total : ℕ} {same : Bool} {body t₀ : List ℕ} {at₀ : ℕ} {h₀ : Header} {t : List ℕ} {pos : ℕ} {to : Taken}
     (k : Laid s mark total same body t₀ at₀ h₀ t pos to) where

@@ -1,4 +1,4 @@
-use Rattle.writes.proofs.Clearing.{kept_start, kept_slot, kept_header, kept_turn, kept_same, kept_stored}
+use Rattle.writes.proofs.Clearing.{kept_start, kept_slot, kept_turn, kept_same, kept_stored}
 use Rattle.writes.proofs.clear_chain.Goals as goal
 
 pub loop-slot-init : goal.loop-slot-init
@@ -17,9 +17,6 @@ loop-slot-smaller c =
 pub loop-slot-preserved : goal.loop-slot-preserved
 loop-slot-preserved c =
     (kept_turn c.loop-slot.invariant c.loop-slot-test.true (cc (c.next_part-next.ensures, c.of.ensures.0, c.of.ensures.1)) c.clear_slot-header.ensures.0 c.clear_slot-header.ensures.1).0
-
-pub write_header-requires : goal.write_header-requires
-write_header-requires c = kept_header c.loop-slot.invariant
 
 pub returns-then-not-same : goal.returns-then-not-same
 returns-then-not-same c = λ old free g. kept_stored c.loop-slot.invariant c.loop-slot-test.false old free g c.if-not-same.true c.write_header.ensures
