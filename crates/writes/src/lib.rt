@@ -30,6 +30,7 @@ struct Taken {
 }
 
 // The slot that a part links to: a head's link, a continuation's link, 0 for any other slot.
+#[tactic(auto, unfolding(crate::specs::Steps::next_part))]
 fn next_part(slot: &Slot) -> u64
     ensures { result ≡ next_part slot.now.layout.settings slot.now.bytes.now }
 {
@@ -47,6 +48,7 @@ fn next_part(slot: &Slot) -> u64
 }
 
 // The next slot to write: the old chain's slot `at`, else LAST_REMOVED, else FILLED. Its link is read at once, before it is written.
+#[tactic(auto, unfolding(crate::specs::Steps::taken_from))]
 fn next_free(table: &[u8], layout: Layout, at: u64, h: Header) -> Taken
     requires { (at * layout.settings.size + layout.settings.size ≤ length table.now)
         × (h.removed * layout.settings.size + layout.settings.size ≤ length table.now) × (h.filled * layout.settings.size ≤ length table.now) }
@@ -107,6 +109,7 @@ fn clear_chain(table: &mut [u8], layout: Layout, at: u64, h: Header, same: bool)
 }
 
 // A part with a link in slot i: a head at place 0, else a continuation. Answers the place after what it holds.
+#[tactic(auto, using(laws::proofs::Overheads::overhead_bounds), unfolding(crate::specs::Steps::linked_part, crate::specs::Steps::piece_at, crate::specs::Steps::place_after, crate::specs::Steps::overhead_at))]
 fn store_linked(
     table: &mut [u8],
     layout: Layout,
