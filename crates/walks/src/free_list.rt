@@ -10,6 +10,7 @@ use slots::layout::Layout;
 
 // The members of the free list, or refusal 11: a member not below FILLED or not marked free, or no end after FILLED - 1 members.
 // It is promised of any header, and a `Table` has its own: so the three stay parameters.
+#[tactic(auto, using(crate::proofs::FreeLaws::free_walk))]
 pub fn check_free_refs(table: &[u8], layout: Layout, h: Header) -> Result<u64, Refusal>
     requires { (h.filled * layout.settings.size ≤ length table.now) × (0 < h.filled) }
     ensures { FreeIs result (free_from (view layout.settings.size table.now) h.filled (h.filled - 1) h.removed) }
