@@ -27,9 +27,6 @@ pub record Counting (f : View) (F start at n : ℕ) : Type 0 where
   pub most : n ≤ F - 1
   pub is : code n (free_from f F (F - 1 - n) at) ≡ code 0 (free_from f F (F - 1) start)
 
-pub start : (f : View) (F a : ℕ) → Counting f F a a 0
-start f F a = let e : F - 1 - 0 ≡ F - 1 = omega arith in record { most = omega arith; is = rw e refl }
-
 is_none : (o : Option (List ℕ)) → 0 ≡ code 0 o → free_list_test o ≡ 11
 unfolding code free_list_test
 is_none none e = refl

@@ -1,5 +1,5 @@
 // The walk of the free list, as the Rust's check_free_refs; here it also tests each member's mark, and it always ends.
-ghost use Rattle.std.specs.Prelude.{◌≡◌, ◌-◌, ◌*◌, ◌≤◌, ◌<◌, length};
+ghost use Rattle.std.specs.Prelude.{◌-◌, ◌*◌, ◌≤◌, ◌<◌, length};
 ghost use Rattle.definition.specs.Slots.{view};
 ghost use Rattle.definition.specs.FreeList.{free_from};
 ghost use Rattle.walks.specs.Met.{FreeIs};

@@ -9,7 +9,7 @@ use Rattle.laws.proofs.Sizes.{sizes}
 use Rattle.laws.proofs.Views.{within, length_view}
 use Rattle.walks.proofs.ChainWalks.{rest_fits, later_refused, wrong_total, whole_chain}
 use Rattle.walks.proofs.chain.walk_parts.Goals as goal
-use Rattle.walks.proofs.chain.walk_parts.Goals.{In_ok-rest, After-read_total}
+use Rattle.walks.proofs.chain.walk_parts.Goals.{In_ok-rest}
 
 fits : (c : In_ok-rest) → (c.in_ok-rest.rest.parts ≤ c.args.table.now.header.filled - 2) × (c.args.n + c.in_ok-rest.rest.bytes ≤ length c.args.table.now.bytes.now)
 fits c =
@@ -43,10 +43,10 @@ pub returns-then-bytes-prefix_len : goal.returns-then-bytes-prefix_len
 returns-then-bytes-prefix_len c =
     let t = c.read_total.ensures ∙ ap total_of c.slot.ensures.0 in
     wrong_total _ _ _ _ _ _ c.requires (whole (goal.at.returns-then-bytes-prefix_len c).In_ok-rest) c.in_ok-rest.rest c.in_ok-rest.ensures
-    (λ e. c.if-bytes-prefix_len.true (cc (e, t, c.prefix_len.ensures)))
+    (omega (arith, t, c.prefix_len.ensures))
 
 pub returns : goal.returns
 returns c =
     let t = c.read_total.ensures ∙ ap total_of c.slot.ensures.0 in
     whole_chain _ _ _ _ _ _ c.requires (whole (goal.at.returns c).In_ok-rest) c.in_ok-rest.rest c.in_ok-rest.ensures
-    (cc (c.if-bytes-prefix_len.false, t, c.prefix_len.ensures))
+    (omega (arith, t, c.prefix_len.ensures))
