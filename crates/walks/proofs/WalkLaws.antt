@@ -123,7 +123,7 @@ some_slot s f F mark after n a e = go (parts_from s f F mark after n a).slots (r
     go [] r = absurd r
     go (x ∷ l) r = omega arith
 
-module _ (s : Settings) (f : View) (F a at n k : ℕ) (c : Tallied s f F a at n k) where
+module _ {s : Settings} {f : View} {F a at n k : ℕ} (c : Tallied s f F a at n k) where
   -- the walk stops with this refusal
   stops : (mark : Bool) (m : ℕ) → 0 < m → parts_from s f F mark (eqb n 0) (F - 2 - n) at ≡ stopped m → (parts_from s f F mark true (F - 2) a).fault ≡ m
   unfolding tally
