@@ -14,6 +14,7 @@ use reader::{Table, read_count};
 use slots::layout::Layout;
 
 // The tests of a count change in slot `at`: the slot and the head, whose count it answers.
+#[tactic(auto, unfolding(definition::specs::Calls::checked_key_test))]
 pub fn check_count(table: &Table, at: u64) -> Result<u32, Refusal>
     ensures { CountIs result table.now.layout.settings (view table.now.layout.settings.size table.now.bytes.now) at }
 {
@@ -24,6 +25,7 @@ pub fn check_count(table: &Table, at: u64) -> Result<u32, Refusal>
 
 // A positive step adds, stopping at the lock; a zero or negative one leaves a locked count, else takes its magnitude off. None is left
 // where that takes all.
+#[tactic(auto, using(crate::proofs::StepLaws::steps))]
 pub fn after_step(count: u32, step: i32) -> Option<u32>
     ensures { result ≡ stepped_to (new_count count step) }
 {
@@ -40,6 +42,7 @@ pub fn after_step(count: u32, step: i32) -> Option<u32>
 }
 
 // Stores a count in its place in slot i; nothing else changes.
+#[tactic(auto, using(laws::proofs::Overheads::start_most))]
 pub fn store_count(table: &mut [u8], layout: Layout, i: u64, count: u32)
     requires { i * layout.settings.size + layout.settings.size ≤ length table.old }
     ensures { table.new ≡ put table.old (i * layout.settings.size + start_overhead layout.settings) (bytes 4 count) }
