@@ -1,8 +1,13 @@
 // A line compared with the forms of lines, before anything is done: so what is done of a line asks no more.
+ghost use Rattle.std.specs.Prelude.{map, IfSome};
+ghost use Rattle.std.specs.List.{Contains};
+
 use crate::{values, words};
 
 // What stands beside the first of these forms that a line has.
-pub fn which_form<K: Copy>(line: &[u8], forms: &[(&[u8], K)]) -> Option<K> {
+pub fn which_form<K: Copy>(line: &[u8], forms: &[(&[u8], K)]) -> Option<K>
+    ensures { IfSome result (Contains (map (λ form. form.1) forms.now)) }
+{
     forms
         .iter()
         .find(|(form, _)| fits(line, form))

@@ -1,5 +1,5 @@
 // Keys and contents, each one word of a line: given byte by byte, or made of numbers so that long ones need no letters.
-ghost use Rattle.std.specs.Prelude.{◌<◌};
+ghost use Rattle.std.specs.Prelude.{◌≡◌, ◌<◌, ◌≤◌, length, take, drop, IfSome};
 
 use crate::words;
 
@@ -75,7 +75,9 @@ pub fn is_value(word: &[u8]) -> bool {
 }
 
 // The value in a line: its bytes, which lie at the start of the room. None where the word stands for no bytes that the room holds.
-pub fn value_at<'a>(line: &[u8], place: usize, room: &'a mut [u8]) -> Option<&'a [u8]> {
+pub fn value_at<'a>(line: &[u8], place: usize, room: &'a mut [u8]) -> Option<&'a [u8]>
+    ensures { IfSome result (λ value. length value.now ≤ length room.old) }
+{
     let Value { len, bytes } = value_of(words::word(line, place))?;
     let filled = room.get_mut(..usize::try_from(len).ok()?)?;
     fill(filled, bytes);
@@ -130,12 +132,16 @@ fn low(n: u64) -> u8 {
 // ---- bytes taken together
 
 // The first n bytes, or all where there are fewer.
-pub fn front(b: &[u8], n: usize) -> &[u8] {
+pub fn front(b: &[u8], n: usize) -> &[u8]
+    ensures { result.now ≡ take n b.now }
+{
     b.get(..n).unwrap_or(b)
 }
 
 // What stands after the first n bytes.
-pub fn back(b: &[u8], n: usize) -> &[u8] {
+pub fn back(b: &[u8], n: usize) -> &[u8]
+    ensures { result.now ≡ drop n b.now }
+{
     b.get(n..).unwrap_or(&[])
 }
 

@@ -1,6 +1,6 @@
 // Texts cut at a separator, as a line into words; words compared, and read as numbers. Nothing here asks anything of its caller: a part
 // that is not there is empty, and what is read of a word that spells no number means nothing.
-ghost use Rattle.std.specs.Prelude.{◌==◌, ◌≡◌, ◌≤◌, ◌<◌, [], length, slice_index_or, IfSome};
+ghost use Rattle.std.specs.Prelude.{◌==◌, ◌≡◌, ◌<◌, ◌↔◌, [], slice_index_or, IsTrue, IfSome};
 ghost use Rattle.std.specs.List.{slice_split};
 
 // As many words of a line are compared with those of a form.
@@ -27,12 +27,16 @@ pub fn word(line: &[u8], place: usize) -> &[u8]
     part(line, place, b' ')
 }
 
-pub fn is_at(line: &[u8], place: usize, name: &[u8]) -> bool {
+pub fn is_at(line: &[u8], place: usize, name: &[u8]) -> bool
+    ensures { IsTrue result ↔ (slice_index_or (slice_split (λ b. b == 32) line.now) place [] ≡ name.now) }
+{
     word(line, place) == name
 }
 
 // The place of a word among some names.
-pub fn which(word: &[u8], names: &[u8], separator: u8) -> Option<usize> {
+pub fn which(word: &[u8], names: &[u8], separator: u8) -> Option<usize>
+    ensures { IfSome result (λ place. slice_index_or (slice_split (λ b. b == separator) names.now) place [] ≡ word.now) }
+{
     names
         .split(|b| *b == separator)
         .position(|name| name == word)
