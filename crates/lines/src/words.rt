@@ -1,7 +1,8 @@
 // Texts cut at a separator, as a line into words; words compared, and read as numbers. Nothing here asks anything of its caller: a part
 // that is not there is empty, and what is read of a word that spells no number means nothing.
-ghost use Rattle.std.specs.Prelude.{◌==◌, ◌≡◌, ◌<◌, ◌↔◌, [], slice_index_or, IsTrue, IfSome};
-ghost use Rattle.std.specs.List.{slice_split};
+ghost use Rattle.std.specs.Prelude.{◌≡◌, ◌≢◌, ◌<◌, ◌↔◌, IsTrue, IfSome, IfNone};
+ghost use Rattle.std.specs.List.{All};
+ghost use Rattle.lines.specs.Words.{parts_of, part_at, EndsIn};
 
 // As many words of a line are compared with those of a form.
 pub const MOST: usize = 16;
@@ -9,33 +10,36 @@ pub const MOST: usize = 16;
 // ---- parts of a text
 
 // The parts from a place on, from 0 on.
-pub fn rest(text: &[u8], place: usize, separator: u8) -> &[u8] {
+pub fn rest(text: &[u8], place: usize, separator: u8) -> &[u8]
+    ensures { EndsIn text.now result.now }
+{
     text.splitn(place.saturating_add(1), |b| *b == separator)
         .nth(place)
         .unwrap_or(&[])
 }
 
 pub fn part(text: &[u8], place: usize, separator: u8) -> &[u8]
-    ensures { result.now ≡ slice_index_or (slice_split (λ b. b == separator) text.now) place [] }
+    ensures { result.now ≡ part_at text.now place separator }
 {
     text.split(|b| *b == separator).nth(place).unwrap_or(&[])
 }
 
 pub fn word(line: &[u8], place: usize) -> &[u8]
-    ensures { result.now ≡ slice_index_or (slice_split (λ b. b == 32) line.now) place [] }
+    ensures { result.now ≡ part_at line.now place 32 }
 {
     part(line, place, b' ')
 }
 
 pub fn is_at(line: &[u8], place: usize, name: &[u8]) -> bool
-    ensures { IsTrue result ↔ (slice_index_or (slice_split (λ b. b == 32) line.now) place [] ≡ name.now) }
+    ensures { IsTrue result ↔ (part_at line.now place 32 ≡ name.now) }
 {
     word(line, place) == name
 }
 
 // The place of a word among some names.
 pub fn which(word: &[u8], names: &[u8], separator: u8) -> Option<usize>
-    ensures { IfSome result (λ place. slice_index_or (slice_split (λ b. b == separator) names.now) place [] ≡ word.now) }
+    ensures found { IfSome result (λ place. part_at names.now place separator ≡ word.now) }
+    ensures missing { IfNone result (All (λ name. name ≢ word.now) (parts_of names.now separator)) }
 {
     names
         .split(|b| *b == separator)

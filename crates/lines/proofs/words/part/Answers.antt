@@ -12,6 +12,5 @@ now-unwrap_or (Some x) d = refl
 pub returns : goal.returns
 returns c =
     let picked = nth_from_yields_List c.nth.result c.nth.new.self c.args.place c.nth.ensures.ran
-    (YieldsList-from_slice_split _ (λ b. b == c.args.separator) c.args.text.now c.split.ensures.rest c.split.ensures.done c.split.ensures.closure
-    (λ x r q k. search (rules, tests))) in
+    (YieldsList-from_slice_split _ (λ b. b == c.args.separator) c.args.text.now c.split.ensures.rest c.split.ensures.done c.split.ensures.closure (λ x r q k. search (rules, tests))) in
     ap (λ x. x.now) c.unwrap_or.ensures ∙ now-unwrap_or c.nth.result _ ∙ ap (λ o. unwrap_or o []) picked ∙ unwrap_or-slice_get _ c.args.place []
