@@ -1,5 +1,6 @@
 // Keys and contents, each one word of a line: given byte by byte, or made of numbers so that long ones need no letters.
 ghost use Rattle.std.specs.Prelude.{◌≡◌, ◌<◌, ◌≤◌, length, take, drop, IfSome};
+ghost use Rattle.lines.specs.Values.{sum_with, sum_of};
 
 use crate::words;
 
@@ -146,10 +147,14 @@ pub fn back(b: &[u8], n: usize) -> &[u8]
 }
 
 // What stands for bytes that are too many to write: each byte b in turn makes the sum 257 times itself plus b + 1, modulo a prime.
-pub fn sum(b: &[u8]) -> u64 {
+pub fn sum(b: &[u8]) -> u64
+    ensures { result ≡ sum_of b.now }
+{
     b.iter().fold(0, |sum, byte| sum_with(sum, *byte))
 }
 
-fn sum_with(sum: u64, byte: u8) -> u64 {
+fn sum_with(sum: u64, byte: u8) -> u64
+    ensures { result ≡ sum_with sum byte }
+{
     (sum % 4294967291 * 257 + u64::from(byte) + 1) % 4294967291
 }

@@ -72,7 +72,7 @@ pub fn spells(word: &[u8], base: u8) -> bool {
 }
 
 // What a decimal word spells; one of more than 64 bits counts as their largest.
-pub fn decimal(word: &[u8]) -> Option<u64> {
+pub(crate) fn decimal(word: &[u8]) -> Option<u64> {
     if word.is_empty() {
         return None;
     }

@@ -1,4 +1,4 @@
-use Rattle.std.proofs.Common.{◌≡◌, sym, subst, arith, refl, Bor, List, ℕ}
+use Rattle.std.proofs.Common.{sym, subst, arith, refl, Bor, List, ℕ}
 use Rattle.lines.specs.Words.{EndsIn}
 use Rattle.lines.proofs.Cuts.{nth_end}
 use Rattle.lines.proofs.words.rest.Goals as goal
