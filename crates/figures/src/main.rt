@@ -45,29 +45,30 @@ fn read_full<'a>(reader: &mut impl Read, room: &'a mut [u8]) -> io::Result<&'a [
 
 // Each line in turn. The calls are on the table of the last line `table`; before the first there is none, and every call is refused.
 fn answer_all(rt: &impl Print, text: &[u8], buffer: &mut [u8]) -> io::Result<()> {
-    let mut table: &[u8] = &[];
+    let mut last_table: &[u8] = &[];
     for ended in text.split_inclusive(|b| *b == b'\n') {
         let line = ended.strip_suffix(b"\n").unwrap_or(ended);
         let kind = Kind::of(line);
         if kind == Some(Kind::Table) {
-            table = line;
+            last_table = line;
         }
-        answer(rt, kind, line, table, buffer)?;
+        answer(rt, kind, line, last_table, buffer)?;
     }
     Ok(())
 }
 
-// Writes a line and its answer.
+// Writes a line and its answer; the table that its call is on is the front of the buffer, as the last line `table` says.
 fn answer(
     rt: &impl Print,
     kind: Option<Kind>,
     line: &[u8],
-    table: &[u8],
+    last_table: &[u8],
     buffer: &mut [u8],
 ) -> io::Result<()> {
     rt.write_all(line)?;
-    let settings = calls::settings(table);
-    match (kind, buffer.get_mut(..words::number_at(table, 5) as usize)) {
+    let settings = calls::settings(last_table);
+    let len = words::number_at(last_table, 5) as usize;
+    match (kind, buffer.get_mut(..len)) {
         (Some(kind), Some(table)) => Call {
             rt,
             line,

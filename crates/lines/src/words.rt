@@ -92,7 +92,7 @@ pub fn spells_up_to(word: &[u8], most: u64) -> bool {
     decimal(word).is_some_and(|n| n <= most)
 }
 
-// Not std's saturating steps: here the six largest numbers of 64 bits count as the last of them, as they always did.
+// Not saturating_mul and saturating_add: from 18446744073709551610 on each number counts as the largest, and what is written of it stays.
 fn with_digit(n: u64, digit: u8) -> u64
     requires { digit < 16 }
 {
@@ -106,10 +106,11 @@ fn with_digit(n: u64, digit: u8) -> u64
 
 // What a word spells as a signed number of 32 bits.
 fn step(word: &[u8]) -> Option<i32> {
-    match word.strip_prefix(b"-") {
-        Some(digits) => i32::try_from(-i64::try_from(decimal(digits)?).ok()?).ok(),
-        None => i32::try_from(decimal(word)?).ok(),
-    }
+    let n = match word.strip_prefix(b"-") {
+        Some(digits) => -i64::try_from(decimal(digits)?).ok()?,
+        None => i64::try_from(decimal(word)?).ok()?,
+    };
+    i32::try_from(n).ok()
 }
 
 // Whether a word spells a signed number of 32 bits.
