@@ -6,7 +6,7 @@ mod answers;
 mod calls;
 mod kinds;
 
-ghost use Rattle.std.specs.Prelude.{◌≡◌, ◌≤◌, length, IfOk};
+ghost use Rattle.std.specs.Prelude.{◌≤◌, length, IfOk};
 
 use calls::Call;
 use kinds::Kind;
@@ -15,20 +15,16 @@ use std::io;
 use std::io::Read;
 
 // Room for a table of three slots of the largest entry size and some bytes after them; and for as much input: what is longer is left out.
-fn buffer() -> [u8; 98304]
-    ensures { 98304 ≡ length result }
-{
-    [0; 98304]
-}
+const ROOM: usize = 98304;
 
 fn main(rt: HostRuntime) -> io::Result<()> {
-    let mut input = buffer();
-    let mut buffer = buffer();
+    let mut input = [0; ROOM];
+    let mut buffer = [0; ROOM];
     let text = read_full(&mut rt.reader(), &mut input)?;
     answer_all(&rt, text, &mut buffer)
 }
 
-// Reads until the room is full or the input ends: what it read.
+// Reads until the room is full or the input ends: what it read. A `while`, since each read says where the next one goes on.
 fn read_full<'a>(reader: &mut impl Read, room: &'a mut [u8]) -> io::Result<&'a [u8]>
     ensures { IfOk result (λ text. length text.now ≤ length room.old) }
 {
