@@ -11,6 +11,7 @@ use numbers::{Number, has_mark};
 // ---- marks
 
 // ff ff: a free slot.
+#[tactic(auto, unfolding(definition::specs::Slots::is_free))]
 pub fn is_free(slot: &[u8]) -> bool
     requires { word_bytes ≤ length slot.now }
     ensures { result ≡ is_free slot.now }
@@ -19,6 +20,7 @@ pub fn is_free(slot: &[u8]) -> bool
 }
 
 // fe ff: a continuation.
+#[tactic(auto, unfolding(definition::specs::Slots::is_continuation))]
 pub fn is_continuation(slot: &[u8]) -> bool
     requires { word_bytes ≤ length slot.now }
     ensures { result ≡ is_continuation slot.now }
@@ -35,6 +37,7 @@ pub fn is_compressed_head(slot: &[u8]) -> bool
 }
 
 // fd ff or fd 7f: a head.
+#[tactic(auto, unfolding(definition::specs::Slots::is_head))]
 pub fn is_head(slot: &[u8]) -> bool
     requires { word_bytes ≤ length slot.now }
     ensures { result ≡ is_head slot.now }
@@ -45,6 +48,7 @@ pub fn is_head(slot: &[u8]) -> bool
 // ---- sizes, links, counts
 
 // The size word's low 15 bits.
+#[tactic(auto, unfolding(definition::specs::Slots::size_of, definition::specs::Slots::size_word))]
 pub fn part_size(slot: &[u8]) -> usize
     requires { word_bytes ≤ length slot.now }
     ensures { result ≡ size_of slot.now }
@@ -53,6 +57,7 @@ pub fn part_size(slot: &[u8]) -> usize
 }
 
 // The link of a continuation or of a free slot.
+#[tactic(auto, unfolding(definition::specs::Slots::link_of))]
 pub fn read_next(slot: &[u8]) -> u64
     requires { link_overhead ≤ length slot.now }
     ensures { result ≡ link_of slot.now }
@@ -61,6 +66,7 @@ pub fn read_next(slot: &[u8]) -> u64
 }
 
 // The content length in a head.
+#[tactic(auto, unfolding(definition::specs::Slots::total_of))]
 pub fn read_total(slot: &[u8]) -> u64
     requires { link_overhead ≤ length slot.now }
     ensures { result ≡ total_of slot.now }
@@ -69,6 +75,7 @@ pub fn read_total(slot: &[u8]) -> u64
 }
 
 // The link of a head, right before its prefix.
+#[tactic(auto, unfolding(definition::specs::Slots::head_link, definition::specs::Settings::head_overhead))]
 pub fn read_head_next(slot: &[u8], s: Settings) -> u64
     requires { 18 ≤ length slot.now }
     ensures { result ≡ head_link s slot.now }
@@ -77,6 +84,7 @@ pub fn read_head_next(slot: &[u8], s: Settings) -> u64
 }
 
 // Whether a chain starts in the slot.
+#[tactic(auto, unfolding(definition::specs::Slots::starts))]
 pub fn starts_chain(slot: &[u8], s: Settings) -> bool
     requires { word_bytes ≤ length slot.now }
     ensures { result ≡ starts s slot.now }
@@ -89,6 +97,7 @@ pub fn starts_chain(slot: &[u8], s: Settings) -> bool
 }
 
 // The count where a chain starts, 1 if uncounted.
+#[tactic(auto, using(laws::proofs::Overheads::start_most), unfolding(definition::specs::Slots::count_of))]
 pub fn read_count(slot: &[u8], s: Settings) -> u32
     requires { 22 ≤ length slot.now }
     ensures { result ≡ count_of s slot.now }
@@ -101,6 +110,7 @@ pub fn read_count(slot: &[u8], s: Settings) -> u32
 }
 
 // The compressed mark where a chain starts.
+#[tactic(auto, unfolding(definition::specs::Slots::mark_of, definition::specs::Slots::top_bit, definition::specs::Slots::size_word))]
 pub fn read_compressed(slot: &[u8], s: Settings) -> bool
     requires { word_bytes ≤ length slot.now }
     ensures { result ≡ mark_of s slot.now }

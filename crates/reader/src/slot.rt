@@ -25,6 +25,7 @@ pub struct Slot<'a> {
 
 impl<'a> Slot<'a> {
     // Slot i of a table.
+    #[tactic(auto, unfolding(definition::specs::Slots::view))]
     pub fn of(table: &'a [u8], layout: Layout, i: u64) -> Slot<'a>
         requires { i * layout.settings.size + layout.settings.size ≤ length table.now }
         ensures { (result.bytes.now ≡ view layout.settings.size table.now i) × (result.layout ≡ layout) }
@@ -53,6 +54,7 @@ impl<'a> Slot<'a> {
 
     // The slot where a chain starts: its tests in order, then its kind, with its link, and the bytes that it holds.
     // `mismatch` is the refusal of a checked key that differs.
+    #[tactic(auto, unfolding(definition::specs::Chains::head_parse, definition::specs::Chains::head_fault, definition::specs::Chains::start_part, definition::specs::Chains::unless_refused, definition::specs::Tests::first, definition::specs::Tests::refuse, definition::specs::Settings::head_overhead))]
     pub fn parse_head(&self, key: Option<&[u8]>, mismatch: Refusal) -> Result<Part, Refusal>
         requires { checked_key_test self.now.layout.settings (lent_key key) ≡ 0 }
         ensures { parse_of result ≡ head_parse self.now.layout.settings (lent_key key.entry) (number_of mismatch) self.now.bytes.now }
@@ -86,6 +88,7 @@ impl<'a> Slot<'a> {
     }
 
     // A later part of a chain: its kind, with its link, and the bytes that it holds.
+    #[tactic(auto, unfolding(definition::specs::Chains::later_parse, definition::specs::Chains::last_fault, definition::specs::Chains::unless_refused, definition::specs::Tests::refuse))]
     pub fn parse_later(&self) -> Result<Part, Refusal>
         ensures { (mark after_head : Bool) → parse_of result ≡ later_parse self.now.layout.settings mark after_head self.now.bytes.now }
     {

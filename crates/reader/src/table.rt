@@ -17,11 +17,11 @@ pub struct Table<'a> {
 }
 
 impl<'a> Table<'a> {
-    ghost use Rattle.definition.specs.Slots.{filled as filled_of};
     ghost use Rattle.definition.specs.Calls.{capacity};
     ghost use Rattle.reader.specs.Opened.{OpenedIs, SlotIs};
 
     // Tests 1, 2 and 3: settings, capacity, header.
+    #[tactic(auto, unfolding(definition::specs::Calls::settings_test, definition::specs::Calls::buffer_test, definition::specs::Calls::header_test, definition::specs::Calls::capacity, definition::specs::Tests::first, definition::specs::Tests::refuse))]
     pub fn open(bytes: &'a [u8], settings: Settings) -> Result<Table<'a>, Refusal>
         ensures { OpenedIs result settings bytes.now }
     {
@@ -42,6 +42,7 @@ impl<'a> Table<'a> {
     }
 
     // The slots that fit.
+    #[tactic(auto, unfolding(definition::specs::Calls::capacity))]
     pub fn capacity(&self) -> u64
         ensures { result ≡ capacity self.now.layout.settings self.now.bytes.now }
     {
@@ -57,6 +58,7 @@ impl<'a> Table<'a> {
     }
 
     // Test 7, then the slot.
+    #[tactic(auto, unfolding(definition::specs::Calls::slot_test, definition::specs::Tests::refuse))]
     pub fn record_slot(&self, i: u64) -> Result<Slot<'a>, Refusal>
         ensures { SlotIs result self.now i }
     {

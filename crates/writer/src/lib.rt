@@ -16,6 +16,7 @@ use numbers::{Number, write_mark};
 use slots::layout::Layout;
 
 // A free slot: ff ff and the link.
+#[tactic(auto, using(crate::proofs::WriteLaws::free_put))]
 pub fn write_free(slot: &mut [u8], next: u64)
     requires { link_overhead ≤ length slot.old }
     ensures { slot.new ≡ put slot.old 0 (free_slot next) }
@@ -25,6 +26,7 @@ pub fn write_free(slot: &mut [u8], next: u64)
 }
 
 // A continuation: fe ff, the link, then the body from `pos` to the slot's end.
+#[tactic(auto, using(crate::proofs::WriteLaws::continuation_put))]
 pub fn write_continuation(slot: &mut [u8], next: u64, body: &Body, pos: usize)
     requires { (link_overhead ≤ length slot.old) × (pos + (length slot.old - link_overhead) ≤ length (body_of body.now)) }
     ensures { slot.new ≡ put slot.old 0 (continuation_part next (take (length slot.old - link_overhead) (drop pos (body_of body.now)))) }
@@ -43,6 +45,7 @@ fn write_head_mark(slot: &mut [u8], mark: bool)
 }
 
 // A head: its mark, the content length, the link, then the body to the slot's end.
+#[tactic(auto, using(crate::proofs::WriteLaws::head_put, laws::proofs::Overheads::overhead_bounds))]
 pub fn write_head(slot: &mut [u8], s: Settings, mark: bool, total: u64, next: u64, body: &Body)
     requires { (18 ≤ length slot.old) × (length slot.old - head_overhead s ≤ length (body_of body.now)) }
     ensures { slot.new ≡ put slot.old 0 (head_part s mark total next (take (length slot.old - head_overhead s) (body_of body.now))) }
@@ -63,6 +66,7 @@ fn size_word(n: u16, mark: bool) -> u16
 }
 
 // A plain slot, or a last part: the size word, then what is left of the body from `pos` on.
+#[tactic(auto, using(crate::proofs::WriteLaws::sized_put))]
 pub fn write_sized(slot: &mut [u8], mark: bool, body: &Body, pos: usize)
     requires { (pos ≤ length (body_of body.now)) × (length (body_of body.now) - pos + word_bytes ≤ length slot.old) × (length (body_of body.now) - pos < 0x8000) }
     ensures { slot.new ≡ put slot.old 0 (sized_part mark (drop pos (body_of body.now))) }
@@ -75,6 +79,7 @@ pub fn write_sized(slot: &mut [u8], mark: bool, body: &Body, pos: usize)
 // ---- the same in slot i of a table
 
 // A free slot in slot i.
+#[tactic(auto, using(crate::proofs::WriteLaws::slot_put, laws::proofs::Parts::length_free))]
 pub fn store_free(table: &mut [u8], layout: Layout, i: u64, next: u64)
     requires { i * layout.settings.size + layout.settings.size ≤ length table.old }
     ensures { table.new ≡ put table.old (i * layout.settings.size) (free_slot next) }
@@ -83,6 +88,7 @@ pub fn store_free(table: &mut [u8], layout: Layout, i: u64, next: u64)
 }
 
 // A continuation in slot i.
+#[tactic(auto, using(crate::proofs::WriteLaws::continuation_stored))]
 pub fn store_continuation(
     table: &mut [u8],
     layout: Layout,
@@ -98,6 +104,7 @@ pub fn store_continuation(
 }
 
 // A head in slot i.
+#[tactic(auto, using(crate::proofs::WriteLaws::head_stored, laws::proofs::Overheads::overhead_bounds))]
 pub fn store_head(
     table: &mut [u8],
     layout: Layout,
@@ -121,6 +128,7 @@ pub fn store_head(
 }
 
 // A plain slot or a last part in slot i.
+#[tactic(auto, using(crate::proofs::WriteLaws::sized_stored))]
 pub fn store_sized(table: &mut [u8], layout: Layout, i: u64, mark: bool, body: &Body, pos: usize)
     requires { (i * layout.settings.size + layout.settings.size ≤ length table.old) × (pos ≤ length (body_of body.now)) × (length (body_of body.now) - pos ≤ layout.settings.size - word_bytes) }
     ensures { table.new ≡ put table.old (i * layout.settings.size) (sized_part mark (drop pos (body_of body.now))) }
