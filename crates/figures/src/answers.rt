@@ -1,5 +1,5 @@
 // How the program writes: bytes, and each kind of answer.
-use definition::{Changed, Found, FreeCount, Inserted, Record, Refusal, Written};
+use definition::{Record, Refusal};
 use lines::values;
 use std::{fmt, io};
 
@@ -41,8 +41,8 @@ pub fn print_bytes(rt: &impl Print, name: &str, b: &[u8]) -> io::Result<()> {
 pub enum Answer {
     Slot(u64),
     Accepted,
-    Count(u32),
-    LastReference,
+    // None: the last reference.
+    Count(Option<u32>),
     Free(u64),
     Content(Record),
 }
@@ -52,8 +52,8 @@ impl fmt::Display for Answer {
         match self {
             Answer::Slot(slot) => write!(f, "slot {slot}"),
             Answer::Accepted => f.write_str("accepted"),
-            Answer::Count(count) => write!(f, "count {count}"),
-            Answer::LastReference => f.write_str("LAST REFERENCE"),
+            Answer::Count(Some(count)) => write!(f, "count {count}"),
+            Answer::Count(None) => f.write_str("LAST REFERENCE"),
             Answer::Free(members) => write!(f, "free {members}"),
             Answer::Content(record) => {
                 let mark = if record.mark { ", compressed" } else { "" };
@@ -73,43 +73,5 @@ pub fn print(rt: &impl Print, answer: Result<Answer, Refusal>) -> io::Result<()>
     match answer {
         Ok(answer) => print!(rt; ": {answer}"),
         Err(refusal) => print!(rt; ": refused {}", refusal.number()),
-    }
-}
-
-// ---- what the calls answer, as an answer or a refusal
-
-pub fn inserted(a: Inserted) -> Result<Answer, Refusal> {
-    match a {
-        Inserted::At(slot) => Ok(Answer::Slot(slot)),
-        Inserted::Refused(refusal) => Err(refusal),
-    }
-}
-
-pub fn written(a: Written) -> Result<Answer, Refusal> {
-    match a {
-        Written::Accepted => Ok(Answer::Accepted),
-        Written::Refused(refusal) => Err(refusal),
-    }
-}
-
-pub fn changed(a: Changed) -> Result<Answer, Refusal> {
-    match a {
-        Changed::Count(count) => Ok(Answer::Count(count)),
-        Changed::LastReference => Ok(Answer::LastReference),
-        Changed::Refused(refusal) => Err(refusal),
-    }
-}
-
-pub fn free(a: FreeCount) -> Result<Answer, Refusal> {
-    match a {
-        FreeCount::Members(members) => Ok(Answer::Free(members)),
-        FreeCount::Refused(refusal) => Err(refusal),
-    }
-}
-
-pub fn found(a: Found) -> Result<Answer, Refusal> {
-    match a {
-        Found::Content(record) => Ok(Answer::Content(record)),
-        Found::Refused(refusal) => Err(refusal),
     }
 }

@@ -81,7 +81,7 @@ impl<R: Print> Call<'_, R> {
         let content = self.value(4, &mut content_room);
         let mark = words::is_at(self.line, 5, b"compressed");
         let inserted = table::insert(self.table, self.settings, key, content, mark);
-        self.print_written(answers::inserted(inserted))
+        self.print_written(inserted.map(Answer::Slot))
     }
 
     fn replace(&mut self) -> io::Result<()> {
@@ -92,20 +92,20 @@ impl<R: Print> Call<'_, R> {
         let content = self.value(5, &mut content_room);
         let mark = words::is_at(self.line, 6, b"compressed");
         let replaced = table::replace(self.table, self.settings, slot, key, content, mark);
-        self.print_written(answers::written(replaced))
+        self.print_written(replaced.map(|()| Answer::Accepted))
     }
 
     fn remove(&mut self) -> io::Result<()> {
         let slot = self.slot();
         let removed = table::remove(self.table, self.settings, slot);
-        self.print_written(answers::written(removed))
+        self.print_written(removed.map(|()| Answer::Accepted))
     }
 
     fn change_count(&mut self) -> io::Result<()> {
         let slot = self.slot();
         let step = words::step_at(self.line, 2);
         let changed = table::change_count(self.table, self.settings, slot, step);
-        self.print_written(answers::changed(changed))
+        self.print_written(changed.map(Answer::Count))
     }
 
     // The answer of a call that writes, and the whole table after it.
@@ -137,15 +137,8 @@ impl<R: Print> Call<'_, R> {
             return answers::print_unknown(self.rt);
         };
         let key = self.checked_key(&mut key_room);
-        let found = table::read(
-            self.table,
-            self.settings,
-            self.slot(),
-            key.is_some(),
-            key.unwrap_or(&[]),
-            output,
-        );
-        answers::print(self.rt, answers::found(found))?;
+        let found = table::read(self.table, self.settings, self.slot(), key, output);
+        answers::print(self.rt, found.map(Answer::Content))?;
         answers::print_bytes(self.rt, ", output", output)
     }
 
@@ -153,27 +146,15 @@ impl<R: Print> Call<'_, R> {
     fn read_fixed(&self) -> io::Result<()> {
         let mut room = [0; values::ROOM];
         let key = self.checked_key(&mut room);
-        let found = table::find_fixed(
-            self.table,
-            self.settings,
-            self.slot(),
-            key.is_some(),
-            key.unwrap_or(&[]),
-        );
-        answers::print(self.rt, answers::found(found))?;
-        let part = table::read_fixed(
-            self.table,
-            self.settings,
-            self.slot(),
-            key.is_some(),
-            key.unwrap_or(&[]),
-        );
+        let found = table::find_fixed(self.table, self.settings, self.slot(), key);
+        answers::print(self.rt, found.map(Answer::Content))?;
+        let part = table::read_fixed(self.table, self.settings, self.slot(), key);
         answers::print_bytes(self.rt, ", part", part)
     }
 
     fn free_count(&self) -> io::Result<()> {
         let free = table::free_count(self.table, self.settings);
-        answers::print(self.rt, answers::free(free))
+        answers::print(self.rt, free.map(Answer::Free))
     }
 
     // As many of these bytes as the table has.
