@@ -35,10 +35,13 @@ impl Number for u16 {
 
     ghost value = { λ n. n };
 
+    #[tactic(auto, using(crate::proofs::Widths::spelt))]
     fn read(s: &[u8], at: usize) -> u16 {
-        u16::from_le_bytes([s[at], s[at + 1]])
+        let b = &s[at..at + 2];
+        u16::from_le_bytes([b[0], b[1]])
     }
 
+    #[tactic(auto, using(crate::proofs::Widths::stored))]
     fn write(self, s: &mut [u8], at: usize) {
         s[at..at + 2].copy_from_slice(&self.to_le_bytes());
     }
@@ -51,10 +54,13 @@ impl Number for u32 {
 
     ghost value = { λ n. n };
 
+    #[tactic(auto, using(crate::proofs::Widths::spelt))]
     fn read(s: &[u8], at: usize) -> u32 {
-        u32::from_le_bytes([s[at], s[at + 1], s[at + 2], s[at + 3]])
+        let b = &s[at..at + 4];
+        u32::from_le_bytes([b[0], b[1], b[2], b[3]])
     }
 
+    #[tactic(auto, using(crate::proofs::Widths::stored))]
     fn write(self, s: &mut [u8], at: usize) {
         s[at..at + 4].copy_from_slice(&self.to_le_bytes());
     }
@@ -67,11 +73,13 @@ impl Number for u64 {
 
     ghost value = { λ n. n };
 
+    #[tactic(auto, using(crate::proofs::Widths::spelt))]
     fn read(s: &[u8], at: usize) -> u64 {
         let b = &s[at..at + 8];
         u64::from_le_bytes([b[0], b[1], b[2], b[3], b[4], b[5], b[6], b[7]])
     }
 
+    #[tactic(auto, using(crate::proofs::Widths::stored))]
     fn write(self, s: &mut [u8], at: usize) {
         s[at..at + 8].copy_from_slice(&self.to_le_bytes());
     }
@@ -80,6 +88,7 @@ impl Number for u64 {
 // ---- marks
 
 // Whether the slot starts with the mark.
+#[tactic(auto, using(crate::proofs::Marks::marked_pair))]
 pub fn has_mark(slot: &[u8], mark: &[u8; 2]) -> bool
     requires { 2 ≤ length slot.now }
     ensures { result ≡ marked (get_or mark.now 0 0 ∷ get_or mark.now 1 0 ∷ []) slot.now }
@@ -88,6 +97,7 @@ pub fn has_mark(slot: &[u8], mark: &[u8; 2]) -> bool
 }
 
 // Stores the mark at the slot's start.
+#[tactic(auto, using(crate::proofs::Marks::put_pair))]
 pub fn write_mark(slot: &mut [u8], mark: &[u8; 2])
     requires { 2 ≤ length slot.old }
     ensures { slot.new ≡ put slot.old 0 (get_or mark.now 0 0 ∷ get_or mark.now 1 0 ∷ []) }

@@ -10,6 +10,7 @@ use definition::Header;
 use numbers::Number;
 
 // LAST_REMOVED and FILLED of a table that has a slot 0. A stored FILLED of 0 reads as 1.
+#[tactic(auto, using(crate::proofs::HeaderLaws::header_is))]
 pub fn read_header(table: &[u8], layout: Layout) -> Header
     requires { layout.settings.size ≤ length table.now }
     ensures { result ≡ header_of (view layout.settings.size table.now) }
@@ -21,6 +22,7 @@ pub fn read_header(table: &[u8], layout: Layout) -> Header
 }
 
 // Stores LAST_REMOVED and FILLED; the rest of slot 0 stays.
+#[tactic(auto, using(crate::proofs::HeaderLaws::header_put))]
 pub fn write_header(table: &mut [u8], h: Header)
     requires { link_bytes + link_bytes ≤ length table.old }
     ensures { table.new ≡ put table.old 0 (header_store h.removed h.filled).1 }

@@ -14,6 +14,7 @@ use entry::PartialKey;
 use numbers::Number;
 
 // Whether the 26 bytes of the slot at place `at` are the key's bytes 6 to 31.
+#[tactic(auto, using(crate::proofs::KeyLaws::same_words))]
 fn same_key(slot: &[u8], at: usize, key: &[u8]) -> bool
     requires { (at + key_bytes ≤ length slot.now) × (length key.now ≡ hash_bytes) }
     ensures { result ≡ same_bytes (take key_bytes (drop at slot.now)) (partial_key key.now) }
@@ -22,6 +23,7 @@ fn same_key(slot: &[u8], at: usize, key: &[u8]) -> bool
 }
 
 // Whether the key that is checked, if one is, differs from the one in the slot. An unkeyed table ignores it, whatever its length.
+#[tactic(auto, using(crate::proofs::KeyLaws::unasked, crate::proofs::KeyLaws::unkeyed, crate::proofs::KeyLaws::key_fits, crate::proofs::KeyLaws::compared, laws::proofs::Overheads::count_most, laws::proofs::Overheads::start_most))]
 pub fn key_differs(slot: &[u8], layout: Layout, key: Option<&[u8]>) -> bool
     requires { (length slot.now ≡ layout.settings.size) × (checked_key_test layout.settings (lent_key key) ≡ 0) }
     ensures { result ≡ key_differs layout.settings (lent_key key.entry) slot.now }
@@ -34,6 +36,7 @@ pub fn key_differs(slot: &[u8], layout: Layout, key: Option<&[u8]>) -> bool
 }
 
 // Writes the prefix of a new record, a count of 1 and the partial key, at the front of a buffer, and answers its length.
+#[tactic(auto, using(crate::proofs::KeyLaws::key_whole, laws::proofs::Overheads::count_most))]
 pub fn write_prefix(buf: &mut [u8; PREFIX_SIZE], s: Settings, key: &[u8]) -> usize
     requires { key_test s key.now ≡ 0 }
     ensures { (take result buf.new ≡ prefix s key.now) × (result ≡ prefix_len s) }

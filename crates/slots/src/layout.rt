@@ -1,5 +1,5 @@
 // Settings that passed test 1, and where the slots of a table with them lie.
-ghost use Rattle.std.specs.Prelude.{◌≡◌, false, ◌+◌, ◌*◌, ◌≤◌, ◌<◌, ◌^◌, IsErrOf, IfOk, true, ◌↔◌};
+ghost use Rattle.std.specs.Prelude.{◌≡◌, false, ◌+◌, ◌*◌, ◌≤◌, ◌<◌, ◌^◌, IsErrOf, IsOkUnless, IfOk, true, ◌↔◌};
 ghost use Rattle.definition.specs.Settings.{bad_settings, least_size, largest_size};
 
 use definition::{Refusal, Settings};
@@ -15,8 +15,10 @@ pub struct Layout {
 
 impl Layout {
     // Test 1.
+    #[tactic(auto, unfolding(definition::specs::Settings::bad_settings))]
     pub fn new(settings: Settings) -> Result<Layout, Refusal>
         ensures bad { IsErrOf result Refusal.Settings ↔ (bad_settings settings ≡ true) }
+        ensures refusal { IsOkUnless result Refusal.Settings }
         ensures good { IfOk result (λ layout. layout.settings ≡ settings) }
     {
         if settings.is_bad() {
