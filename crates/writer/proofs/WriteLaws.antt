@@ -6,7 +6,7 @@ use Prim.Native.Nat.{ℕ, ◌+◌, ◌-◌, ◌*◌, ◌≤◌}
 use native.Mathlib.Omega.{arith}
 use native.Mathlib.Nat.{add-zero}
 use lib.ListN.{length, take, drop, length-append, length-drop}
-use lib.Seq.{take_all, length-take-le}
+use lib.Seq.{take_all, drop-append-le, length-take-le}
 use borrow.Rule.Slice.PartMut.{put_mid, mid_of}
 use Rattle.definition.specs.declared.Settings.{Settings}
 use Rattle.definition.specs.Numbers.{bytes, put, over}
@@ -14,7 +14,7 @@ use Rattle.definition.specs.Settings.{head_overhead}
 use Rattle.definition.specs.Slots.{free_mark, continuation_mark, head_mark, compressed_mark}
 use Rattle.definition.specs.Parts.{sized_part, continuation_part, stored_total, head_part, free_slot}
 use Rattle.laws.proofs.Bytes.{length_bytes}
-use Rattle.laws.proofs.Lists.{length_part}
+use Rattle.laws.proofs.Lists.{take_append, length_part, drop_past}
 use Rattle.laws.proofs.Parts.{length_continuation, length_head, length_sized}
 use Rattle.laws.proofs.Puts.{length_put, put_next, lent_put}
 
@@ -82,6 +82,29 @@ sized_put t t₁ ys b mark w k pos ek h ew e₁ ey =
     let word : w ≡ length (drop pos b) + cond mark 0x8000 0 = omega arith in
     behind t t₁ (bytes 2 w) ys (drop pos b) 2 (2 + k - 2) (sym (length_bytes 2 w)) (omega arith) (omega arith) e₁ ey
     ∙ ap₂ (λ (x : ℕ) (p : List ℕ). put t 0 (bytes 2 x ++ p)) word (take_all (2 + k - 2) (drop pos b) (omega arith))
+
+-- ---- a body that is copied across the seam of prefix and content
+
+-- d with ys at its front, as far as the prefix goes, then with zs behind them
+pub body_across : (p c d ys zs : List ℕ) (from : ℕ) → from ≤ length p → length p ≤ from + length d → from + length d ≤ length (p ++ c)
+    → ys ≡ take (length p - from) (drop from p) → zs ≡ take (length d - (length p - from)) c
+    → put_mid (length p - from) (length (ys ++ drop (length p - from) d) - (length p - from)) (ys ++ drop (length p - from) d) zs ≡ take (length d) (drop from (p ++ c))
+unfolding put over
+body_across p c d ys zs from h k r ey ez =
+    let m : ℕ = length p - from in
+    let lq : length (drop from p) ≡ m = length-drop from p in
+    let y : ys ≡ drop from p = ey ∙ take_all m (drop from p) (omega arith) in
+    let ly : length ys ≡ m = ap length y ∙ lq in
+    let lw : length (ys ++ drop m d) ≡ length d = simp (length-append, length-drop) (omega arith) in
+    let lz : length zs ≡ length d - m = ap length ez ∙ length-take-le (length d - m) c (omega (arith, length-append p c)) in
+    let laid : ys ++ drop m d ≡ put d 0 ys = ap (λ (j : ℕ). ys ++ drop j d) (sym ly) in
+    part_put m (length (ys ++ drop m d) - m) (ys ++ drop m d) zs (omega arith)
+    ∙ ap (λ (u : List ℕ). put u m zs) laid
+    ∙ put_next d 0 m ys zs (omega arith) (omega arith)
+    ∙ drop_past (ys ++ zs) d (length (ys ++ zs)) (rw length-append (omega arith))
+    ∙ ap₂ (λ (u v : List ℕ). u ++ v) (y ∙ sym (take_all (length d) (drop from p) (omega arith))) (ez ∙ ap (λ (j : ℕ). take (length d - j) c) (sym lq))
+    ∙ sym (take_append (length d) (drop from p) c)
+    ∙ sym (ap (take (length d)) (drop-append-le from p c h))
 
 -- ---- slot i of a table, lent from place a to place e
 

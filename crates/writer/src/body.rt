@@ -17,6 +17,7 @@ impl<'a> Body<'a> {
     }
 
     // Fills `to` with the bytes from place `from` on.
+    #[tactic(auto, using(crate::proofs::WriteLaws::body_across))]
     pub fn copy_to(&self, from: usize, to: &mut [u8])
         requires { from + length to.old ≤ length (body_of self.now) }
         ensures { to.new ≡ take (length to.old) (drop from (body_of self.now)) }
