@@ -1,19 +1,17 @@
--- What the checks share: a refusal that `?` passes on, a table that was opened, and the key of a read.
-use mathlib.Core.Path.{◌≡◌, refl, ap, ◌∙◌, subst}
-use mathlib.Core.List.{List}
+-- What the checks share: a refusal that is passed on, and the key of a read.
+use mathlib.Core.Path.{◌≡◌, refl, ap, ◌∙◌}
+use mathlib.Core.List.{List, ◌++◌}
 use mathlib.Core.Option.{Option, none}
 use Prim.Native.Nat.{ℕ}
 use native.Mathlib.Omega.{arith}
-use Rattle.std.specs.Prelude.{Ok, Err, Result, IsErrAnd}
+use Rattle.std.specs.Prelude.{Err, Result, IsErrAnd}
 use Rattle.std.proofs.lemmas.Result.{err_from_is_err_and}
 use Rattle.definition.specs.declared.Settings.{Settings}
 use Rattle.definition.specs.declared.Refusal.{Refusal}
-use Rattle.definition.specs.Tests.{first}
+use Rattle.definition.specs.Tests.{number_of, first}
 use Rattle.definition.specs.Slots.{view}
-use Rattle.definition.specs.Calls.{capacity, table_tests, checked_key_test}
-use Rattle.laws.proofs.Tests.{first_skip, first_refuses}
-use Rattle.reader.specs.declared.table.Table.{Table}
-use Rattle.reader.specs.Opened.{OpenedIs}
+use Rattle.definition.specs.Calls.{checked_key_test}
+use Rattle.laws.proofs.Tests.{number_some, first_skip, first_refuses, first_refuse_all}
 use Rattle.walks.specs.declared.Extent.{Extent}
 use Rattle.walks.specs.Met.{ChainTested}
 use Rattle.checks.specs.Stages.{RecordIs}
@@ -22,17 +20,9 @@ use Rattle.checks.specs.Stages.{RecordIs}
 pub passed_on : {T : Type 0} (r : Result T Refusal) (e : Refusal) → IsErrAnd r (λ x. x ≡ e) → r ≡ Err e
 passed_on r e q = let p = err_from_is_err_and r q in p.1 ∙ ap Err p.2
 
--- what holds of an opened table's own settings and bytes holds of those that it was opened with
-pub of_table : (table : Table) (s : Settings) (t : List ℕ) → OpenedIs (Ok table) s t → (P : Settings → List ℕ → Type 0)
-    → (first (table_tests table.layout.settings (view table.layout.settings.size table.bytes.now) (capacity table.layout.settings table.bytes.now)) ≡ 0 → P table.layout.settings table.bytes.now) → P s t
-of_table table s t o P f =
-    let own = rw (← o.1, ← o.2) at o.0 in
-    subst (λ (x : Settings). P x t) o.1 (subst (λ (x : List ℕ). P table.layout.settings x) o.2 (f own))
-
--- so of what a call's tests give
-pub tests_of_table : (table : Table) (s : Settings) (t : List ℕ) → OpenedIs (Ok table) s t → (tests : Settings → List ℕ → List ℕ) (n : ℕ)
-    → (first (table_tests table.layout.settings (view table.layout.settings.size table.bytes.now) (capacity table.layout.settings table.bytes.now)) ≡ 0 → first (tests table.layout.settings table.bytes.now) ≡ n) → first (tests s t) ≡ n
-tests_of_table table s t o tests n = of_table table s t o (λ (x : Settings) (y : List ℕ). first (tests x y) ≡ n)
+-- the first tests refuse, so those after them don't count
+pub first_refusal : (r : Refusal) (ns ms : List ℕ) → first ns ≡ number_of r → first (ns ++ ms) ≡ number_of r
+first_refusal r ns ms e = first_refuse_all (number_of r) ns ms e (number_some r)
 
 -- no key is asked for
 pub key_unasked : (s : Settings) → checked_key_test s none ≡ 0

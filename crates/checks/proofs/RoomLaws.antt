@@ -19,7 +19,7 @@ use Rattle.walks.specs.Met.{FreeIs}
 use Rattle.checks.specs.Stages.{RoomIs}
 
 module _ (table : Table) where
-  filled_is : table.header.filled ≡ filled (view table.layout.settings.size table.bytes.now)
+  pub filled_is : table.header.filled ≡ filled (view table.layout.settings.size table.bytes.now)
   filled_is = ap (λ (h : Header). h.filled) table.own
 
   pub some_filled : 0 < table.header.filled
