@@ -26,6 +26,7 @@ pub fn key_bad(s: Settings, key: &[u8]) -> bool
 }
 
 // Test 4 of a read, which may check a key or not.
+#[tactic(auto, unfolding(definition::specs::Calls::checked_key_test, definition::specs::Calls::key_test, definition::specs::Tests::refuse))]
 fn checked_key_bad(s: Settings, key: Option<&[u8]>) -> bool
     ensures { refuse 4 result ≡ checked_key_test s (lent_key key.entry) }
 {

@@ -1,5 +1,5 @@
 // The value to be stored: tests 4 and 6, and the parts that it needs.
-ghost use Rattle.std.specs.Prelude.{◌≡◌, true, cond, List, ℕ, ◌-◌, ◌<◌, ◌≤◌, leb, ltb, length};
+ghost use Rattle.std.specs.Prelude.{◌≡◌, true, cond, List, ℕ, ◌-◌, ◌<◌, leb, ltb, length};
 ghost use Rattle.definition.specs.Settings.{word_bytes};
 ghost use Rattle.definition.specs.Parts.{pieces};
 ghost use Rattle.checks.specs.Stages.{ValuedIs};
@@ -20,6 +20,7 @@ fn value_bad(layout: Layout, n: usize) -> bool
 }
 
 // The parts of n bytes of prefix and content: one on a fixed table, else a head and as many more as the rest takes.
+#[tactic(auto, unfolding(definition::specs::Settings::head_overhead))]
 fn parts_needed(layout: Layout, n: usize) -> u64
     requires { layout.settings.multipart ≡ true → layout.settings.size - word_bytes < n }
     ensures { (body : List ℕ) → length body ≡ n → result ≡ length (pieces layout.settings body) }
@@ -35,6 +36,7 @@ fn parts_needed(layout: Layout, n: usize) -> u64
 }
 
 // Tests 4 and 6, and the parts needed.
+#[tactic(auto, using(laws::proofs::Sizes::prefix_most), unfolding(definition::specs::Calls::key_test, definition::specs::Calls::value_test, definition::specs::Tests::refuse, definition::specs::Tests::first))]
 pub fn check_value(layout: Layout, key: &[u8], content: &[u8]) -> Result<u64, Refusal>
     ensures { ValuedIs result layout.settings key.now content.now }
 {

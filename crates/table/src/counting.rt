@@ -22,9 +22,10 @@ pub fn change_count(
         return Err(Refusal::Uncounted);
     }
     let layout = opened.layout;
-    let left = after_step(check_count(&opened, slot)?, step);
-    if let Some(count) = left {
-        store_count(table, layout, slot, count);
+    let count = check_count(&opened, slot)?;
+    let left = after_step(count, step);
+    if let Some(n) = left {
+        store_count(table, layout, slot, n);
     }
     Ok(left)
 }

@@ -61,6 +61,7 @@ pub fn find_fixed(
 }
 
 // The fixed read: the content bytes of the slot, a part of the lent table from their place on; empty where it is refused.
+#[tactic(auto, using(crate::proofs::ReadLaws::fixed_inside))]
 pub fn read_fixed<'a, 'b>(
     table: &'a [u8],
     s: Settings,
