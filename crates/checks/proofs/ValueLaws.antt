@@ -1,4 +1,4 @@
--- The parts that a body needs: a head, then one part and one more for each further E - 10 bytes (`Parts-more`).
+-- The parts that a body needs: a head, then one part and one more for each further E - 10 bytes (`parts_cut`).
 use mathlib.Core.Path.{◌≡◌, sym, ap, ◌∙◌}
 use mathlib.Core.Bool.{true, false, ◌&&◌, not}
 use mathlib.Core.List.{List, ◌++◌}

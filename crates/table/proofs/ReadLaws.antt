@@ -1,5 +1,5 @@
 -- The reads, each way out: refused by the checks that they share, by the output, or answered with what the chain holds.
-use mathlib.Core.Path.{◌≡◌, refl, sym, ap, ap₂, ◌∙◌}
+use mathlib.Core.Path.{◌≡◌, refl, ap, ap₂, ◌∙◌}
 use mathlib.Core.Bool.{Bool, true, false, cond}
 use mathlib.Core.List.{List, [], ◌∷◌, ◌++◌}
 use mathlib.Core.Option.{Option, none}
@@ -7,28 +7,28 @@ use Prim.Native.Nat.{ℕ, zero, suc, ◌+◌, ◌-◌, ◌*◌, ◌≤◌, ◌<�
 use native.Mathlib.Omega.{arith}
 use lib.Dec.{eqb}
 use lib.ListN.{length, take, drop, length-drop, length-append}
-use lib.Seq.{take_all, take-take, drop-drop}
+use lib.Seq.{take_all}
 use borrow.Author.Tests.{lt-ltb, le-ltb, ne_eqb}
 use Rattle.std.specs.Prelude.{Ok, Err, Result}
 use Rattle.definition.specs.declared.Settings.{Settings}
 use Rattle.definition.specs.declared.Refusal.{Refusal}
 use Rattle.definition.specs.declared.Record.{Record}
 use Rattle.definition.specs.Numbers.{put}
-use Rattle.definition.specs.Tests.{number_of, refuse, first}
-use Rattle.definition.specs.Settings.{prefix_len, head_overhead, bad_settings}
+use Rattle.definition.specs.Tests.{number_of, first}
+use Rattle.definition.specs.Settings.{prefix_len, head_overhead}
 use Rattle.definition.specs.Slots.{View, view, filled, size_of, head_link, mark_of, count_of}
 use Rattle.definition.specs.Chains.{head_fault, sized_body, rest_body, body_of, content_of, parts_from, with_total, whole, Walk, walk}
 use Rattle.definition.specs.Answers.{Answer, refusal, found, found_of}
 use Rattle.definition.specs.Calls.{capacity, table_tests, checked_key_test, slot_test, chain_tests, output_test, unless, read, fixed_tests, look_fixed, read_fixed, find_fixed, content_start, part_start}
 use Rattle.laws.proofs.Conditions.{cond_yes, cond_no, which, Which, is_yes, is_no}
-use Rattle.laws.proofs.Tests.{number_some, refuse_yes, refuse_no, passed, first_pass, first_skip, first_one, first_refuses, first_both, first_past}
-use Rattle.laws.proofs.Lists.{drop_take, length_part}
+use Rattle.laws.proofs.Tests.{number_some, refuse_yes, refuse_no, first_pass, first_skip, first_one, first_refuses, first_past}
+use Rattle.laws.proofs.Lists.{length_part}
 use Rattle.laws.proofs.Puts.{put_front}
-use Rattle.laws.proofs.Sizes.{Sizes, sizes, slot_inside}
-use Rattle.laws.proofs.Passed.{opened, slot_passed, head_unkeyed, walk_fixed}
+use Rattle.laws.proofs.Sizes.{Sizes, sizes}
+use Rattle.laws.proofs.FixedParts.{size_fits, size_least, unchecked, look_found, fixed_part}
+use Rattle.laws.proofs.Passed.{slot_passed, walk_fixed}
 use Rattle.walks.specs.declared.Extent.{Extent}
 use Rattle.contents.specs.Pieces.{Copyable, content_at}
-use Rattle.walks.proofs.ChainWalks.{size_fits, size_least}
 use Rattle.checks.specs.Stages.{RecordIs}
 use Rattle.checks.proofs.RoomLaws.{filled_is}
 use Rattle.reader.specs.declared.table.Table.{Table}
@@ -38,13 +38,6 @@ use Rattle.checks.proofs.CheckLaws.{first_refusal}
 use Rattle.table.proofs.Outcomes.{refuses, accepts}
 
 -- ---- a record whose tests passed
-
--- what passed with a checked key passes without
-unchecked : (s : Settings) (f : View) (h : ℕ) (key : Option (List ℕ)) → first (chain_tests s f h key) ≡ 0 → first (chain_tests s f h none) ≡ 0
-unchecked s f h key e =
-    let a = first_pass (slot_test f h) _ e in
-    let b = first_pass (head_fault s key 8 (f h)) _ a.1 in
-    first_skip (slot_test f h) _ a.0 ∙ first_skip (head_fault s none 8 (f h)) _ (head_unkeyed s key (f h) b.0) ∙ b.1
 
 module _ (s : Settings) (f : View) (F h : ℕ) (z : Sizes s) (w : length (f h) ≡ s.size) (e : head_fault s none 8 (f h) ≡ 0) where
   -- the slot where a chain starts holds the whole prefix
@@ -157,100 +150,39 @@ module _ (s : Settings) (t : List ℕ) (h : ℕ) (key : Option (List ℕ)) where
 
 -- ---- the part that the fixed read hands back
 
--- refused, the companion refuses and the part is empty; found, the companion tells its length
-look_refused : (n m : ℕ) (l : Answer) (c : List ℕ) → refusal n ≡ (unless m [] (l, c)).0 → (l ≡ refusal n → ⊥) → (unless m [] (l, c)).1 ≡ []
+-- an answer that refuses comes of a test that does
+look_refused : (m len : ℕ) (mark : Bool) (k v n : ℕ) (c : List ℕ) → refusal n ≡ (unless m [] (found len mark k v, c)).0 → 0 < m
 unfolding unless
-look_refused n zero l c e g = absurd (g (sym e))
-look_refused n (suc m) l c e g = refl
-
-look_found : (m len : ℕ) (mark : Bool) (k v len' : ℕ) (mark' : Bool) (k' v' : ℕ) (c : List ℕ) → found len' mark' k' v' ≡ (unless m [] (found len mark k v, c)).0
-    → (m ≡ 0) × (len' ≡ len) × ((unless m [] (found len mark k v, c)).1 ≡ c)
-unfolding unless
-look_found zero len mark k v len' mark' k' v' c e = (refl, cc, refl)
-look_found (suc m) len mark k v len' mark' k' v' c e = absurd (let z : ◌≡◌ {A = ℕ} 0 1 = cc in omega arith)
-
--- the content of a plain slot is a part of the table
-plain_content : (s : Settings) (t : List ℕ) (h : ℕ) → bad_settings s ≡ false → s.multipart ≡ false → head_fault s none 8 (view s.size t h) ≡ 0
-    → content_of s (view s.size t) (h ∷ []) ≡ take (size_of (view s.size t h) - prefix_len s) (drop (h * s.size + 2 + prefix_len s) t)
-unfolding content_of body_of sized_body view
-plain_content s t h g m e =
-    let z = sizes s g in
-    let b : List ℕ = view s.size t h in
-    let n : ℕ = size_of b in
-    let p : ℕ = prefix_len s in
-    let fit : n ≤ s.size - 2 = size_fits s b m e in
-    ap (drop p) (cond_no s.multipart _ (take n (drop 2 b)) m)
-    ∙ drop_take p n (drop 2 b)
-    ∙ ap (λ (l : List ℕ). take (n - p) (drop p l)) (drop_take 2 s.size (drop (h * s.size) t))
-    ∙ ap (take (n - p)) (drop_take p (s.size - 2) (drop 2 (drop (h * s.size) t)))
-    ∙ take-take (n - p) (s.size - 2 - p) _ (omega arith)
-    ∙ ap (λ (l : List ℕ). take (n - p) (drop p l)) (drop-drop 2 (h * s.size) t)
-    ∙ ap (take (n - p)) (drop-drop p (h * s.size + 2) t)
-
--- where it lies, and that it is what the read promises
-pub record PartAt (s : Settings) (t : List ℕ) (h : ℕ) (key : Option (List ℕ)) (len : ℕ) : Type 0 where
-  pub inside : h * s.size + 2 + prefix_len s + len ≤ length t
-  pub is : take len (drop (h * s.size + 2 + prefix_len s) t) ≡ read_fixed s key h t
-
-fixed_passes : (s : Settings) (t : List ℕ) (h : ℕ) (key : Option (List ℕ)) → first (fixed_tests s key h t) ≡ 0
-    → (s.multipart ≡ false) × (first (table_tests s (view s.size t) (capacity s t)) ≡ 0) × (first (chain_tests s (view s.size t) h none) ≡ 0)
-unfolding fixed_tests
-fixed_passes s t h key w =
-    let a = first_pass (refuse 1 s.multipart) _ w in
-    let b = first_both (table_tests s (view s.size t) (capacity s t)) _ a.1 in
-    (passed 1 s.multipart (omega arith) a.0, b.0, unchecked s (view s.size t) h key (first_pass (checked_key_test s key) _ b.1).1)
-
-part_found : (s : Settings) (t : List ℕ) (h : ℕ) (key : Option (List ℕ)) (len : ℕ)
-    → (s.multipart ≡ false) × (first (table_tests s (view s.size t) (capacity s t)) ≡ 0) × (first (chain_tests s (view s.size t) h none) ≡ 0)
-    → len ≡ length (content_of s (view s.size t) (h ∷ [])) → (look_fixed s key h t).1 ≡ content_of s (view s.size t) (h ∷ []) → PartAt s t h key len
-unfolding read_fixed
-part_found s t h key len w n c =
-    let f = view s.size t in
-    let o = opened s f (capacity s t) w.1 in
-    let z = sizes s o.settings in
-    let a = first_pass (slot_test f h) _ w.2 in
-    let e : head_fault s none 8 (f h) ≡ 0 = (first_pass (head_fault s none 8 (f h)) _ a.1).0 in
-    let p = slot_passed f h a.0 in
-    let slot = slot_inside s t h (omega (arith, o.fits, p.1)) in
-    let lo = size_least s (f h) w.0 e in
-    let hi = size_fits s (f h) w.0 e in
-    let is = plain_content s t h o.settings w.0 e in
-    let l : len ≡ size_of (f h) - prefix_len s = n ∙ ap length is ∙ length_part t (h * s.size + 2 + prefix_len s) (size_of (f h) - prefix_len s) (omega arith) in
-    record { inside = omega arith; is = ap (λ (k : ℕ). take k (drop (h * s.size + 2 + prefix_len s) t)) l ∙ sym is ∙ sym c }
+look_refused zero len mark k v n c e = absurd (let z : ◌≡◌ {A = ℕ} 0 1 = cc in omega arith)
+look_refused (suc m) len mark k v n c e = omega arith
 
 module _ (s : Settings) (t : List ℕ) (h : ℕ) (key : Option (List ℕ)) where
+  -- refused: the part is empty, and starts where the table does
+  fixed_fails : (r : Refusal) → refusal (number_of r) ≡ find_fixed s key h t → 0 < first (fixed_tests s key h t)
+  unfolding find_fixed look_fixed
+  fixed_fails r e = look_refused _ _ _ _ _ _ _ e
+
   pub fixed_empty : (r : Refusal) → refusal (number_of r) ≡ find_fixed s key h t → [] ≡ read_fixed s key h t
-  unfolding find_fixed read_fixed look_fixed
-  fixed_empty r e = sym (look_refused (number_of r) (first (fixed_tests s key h t)) _ _ e (λ q. let z : ◌≡◌ {A = ℕ} 0 1 = cc in omega arith))
+  unfolding read_fixed look_fixed
+  fixed_empty r e = ap (λ (a : Answer × List ℕ). a.1) (refuses (first (fixed_tests s key h t)) _ [] _ refl (fixed_fails r e))
 
-  pub fixed_part : (len : ℕ) (mark : Bool) (k v : ℕ) → found len mark k v ≡ find_fixed s key h t → PartAt s t h key len
-  unfolding find_fixed read_fixed look_fixed
-  fixed_part len mark k v e =
-      let q = look_found (first (fixed_tests s key h t)) _ _ _ _ len mark k v _ e in
-      part_found s t h key len (fixed_passes s t h key q.0) q.1 q.2
-
-  pub fixed_inside : (x : Record) → found_of (Ok x) ≡ find_fixed s key h t → h * s.size + 2 + prefix_len s + x.len ≤ length t
-  fixed_inside x e = (fixed_part x.len x.mark x.count x.visits e).inside
-
-  -- where it starts, refused and not
   pub empty_start : (r : Refusal) → refusal (number_of r) ≡ find_fixed s key h t → part_start s key h t ≡ 0
-  unfolding find_fixed look_fixed part_start unless
-  empty_start r e = go (first (fixed_tests s key h t)) e
-    where
-      go : (m : ℕ) → refusal (number_of r) ≡ (unless m [] (found (length (content_of s (view s.size t) (h ∷ []))) (mark_of s (view s.size t h)) (count_of s (view s.size t h)) 1, content_of s (view s.size t) (h ∷ []))).0
-          → cond (eqb m 0) (content_start s h) 0 ≡ 0
-      go zero q = absurd (let z : ◌≡◌ {A = ℕ} 0 1 = cc in omega arith)
-      go (suc m) q = cond_no (eqb (suc m) 0) _ _ (ne_eqb (suc m) 0 (λ z. omega arith))
+  unfolding part_start
+  empty_start r e = cond_no (eqb (first (fixed_tests s key h t)) 0) _ _ (ne_eqb (first (fixed_tests s key h t)) 0 (omega (arith, fixed_fails r e)))
 
-  pub part_start_lem : (len : ℕ) (mark : Bool) (k v : ℕ) → found len mark k v ≡ find_fixed s key h t → part_start s key h t ≡ h * s.size + 2 + prefix_len s
+  -- found: it lies within the table, after the size word and the prefix
+  pub fixed_inside : (x : Record) → found_of (Ok x) ≡ find_fixed s key h t → h * s.size + 2 + prefix_len s + x.len ≤ length t
+  fixed_inside x e = (fixed_part s t h key x.len x.mark x.count x.visits e).inside
+
+  pub part_start_lem : (x : Record) → found_of (Ok x) ≡ find_fixed s key h t → part_start s key h t ≡ h * s.size + 2 + prefix_len s
   unfolding find_fixed look_fixed part_start content_start
-  part_start_lem len mark k v e =
-      let q = look_found (first (fixed_tests s key h t)) _ _ _ _ len mark k v _ e in
+  part_start_lem x e =
+      let q = look_found (first (fixed_tests s key h t)) _ _ _ _ x.len x.mark x.count x.visits _ e in
       ap (λ (m : ℕ). cond (eqb m 0) (h * s.size + 2 + prefix_len s) 0) q.0
 
--- the part handed back, from its start to its end
-pub part_handed : (s : Settings) (t : List ℕ) (h : ℕ) (key : Option (List ℕ)) (len k : ℕ) → PartAt s t h key len → k ≡ prefix_len s
-    → take (h * s.size + 2 + k + len - (h * s.size + 2 + k)) (drop (h * s.size + 2 + k) t) ≡ read_fixed s key h t
-part_handed s t h key len k p e =
-    let n : h * s.size + 2 + k + len - (h * s.size + 2 + k) ≡ len = omega arith in
-    rw n (ap (λ (j : ℕ). take len (drop (h * s.size + 2 + j) t)) e ∙ p.is)
+  -- the part handed back, from its start to its end
+  pub part_handed : (x : Record) → found_of (Ok x) ≡ find_fixed s key h t → (k : ℕ) → k ≡ prefix_len s
+      → take (h * s.size + 2 + k + x.len - (h * s.size + 2 + k)) (drop (h * s.size + 2 + k) t) ≡ read_fixed s key h t
+  part_handed x e k p =
+      let n : h * s.size + 2 + k + x.len - (h * s.size + 2 + k) ≡ x.len = omega arith in
+      rw n (ap (λ (j : ℕ). take x.len (drop (h * s.size + 2 + j) t)) p ∙ (fixed_part s t h key x.len x.mark x.count x.visits e).is)
