@@ -30,7 +30,7 @@ use Rattle.laws.proofs.Bytes.{AllBytes, num_same, length_bytes}
 use Rattle.laws.proofs.Sizes.{length_prefix}
 use Rattle.laws.proofs.Puts.{lent, put_next, put_none}
 use Rattle.laws.proofs.Marks.{same_bytes_refl, same_bytes_eq}
-use Rattle.laws.proofs.Overheads.{count_most, start_fits}
+use Rattle.laws.proofs.Overheads.{count_most, start_fits, start_most}
 
 -- two tests that say the same
 both_ways : (a b : Bool) → (a ≡ true → b ≡ true) → (b ≡ true → a ≡ true) → a ≡ b
@@ -147,6 +147,9 @@ module _ (s : Settings) (b : List ℕ) (key : Option (Bor (List ℕ))) where
     compared r e =
         let stored : take 26 (drop (p + c) b) ≡ take (key_len s) (drop (start_overhead s + count_len s) b) = rw (ep, ec, keyed_len s k) refl in
         rw (is, e, stored) (sym (and_skip s.keyed (not (same_bytes (take (key_len s) (drop (start_overhead s + count_len s) b)) (partial_key asked.now))) k))
+
+-- what a look at the stored key needs
+pub ruleset asked_keys = (unasked, unkeyed, key_fits, compared, count_most, start_most)
 
 -- ---- the prefix of a new record
 

@@ -9,7 +9,7 @@ ghost use Rattle.definition.specs.Calls.{key_test, checked_key_test};
 ghost use Rattle.slots.specs.Keys.{lent_key};
 
 use crate::layout::Layout;
-use definition::{KEY_SKIP, PARTIAL_SIZE, PREFIX_SIZE, REFS_SIZE, Settings};
+use definition::{KEY_SKIP, PARTIAL_SIZE, PREFIX_SIZE, Settings};
 use entry::PartialKey;
 use numbers::Number;
 
@@ -23,7 +23,7 @@ fn same_key(slot: &[u8], at: usize, key: &[u8]) -> bool
 }
 
 // Whether the key that is checked, if one is, differs from the one in the slot. An unkeyed table ignores it, whatever its length.
-#[tactic(auto, using(crate::proofs::KeyLaws::unasked, crate::proofs::KeyLaws::unkeyed, crate::proofs::KeyLaws::key_fits, crate::proofs::KeyLaws::compared, laws::proofs::Overheads::count_most, laws::proofs::Overheads::start_most))]
+#[tactic(auto, using(crate::proofs::KeyLaws::asked_keys))]
 pub fn key_differs(slot: &[u8], layout: Layout, key: Option<&[u8]>) -> bool
     requires { (length slot.now ≡ layout.settings.size) × (checked_key_test layout.settings (lent_key key) ≡ 0) }
     ensures { result ≡ key_differs layout.settings (lent_key key.entry) slot.now }
