@@ -136,7 +136,7 @@ pub struct Header {
     pub filled: u64,
 }
 
-// Which kind of part a slot holds, with its link. A last part, and a plain slot, store none: their link is 0.
+// Which kind of part a slot holds, each with its link, as document 01 asks. A last part, and a plain slot, store none: their link is 0.
 #[derive(Clone, Copy, Debug, PartialEq, Eq)]
 pub enum PartKind {
     Head(u64),

@@ -1,5 +1,6 @@
 // What stands at the front of a slot. Each function asks the bytes that it reads, and a `Slot` would ask a whole slot of a caller that has
-// fewer: so they stay functions over bytes.
+// fewer: so they stay functions over bytes. Each mark has its own, and so have a link and a total, since the documents name them and the
+// definition says another thing of each; what they share is `has_mark` and `u64_at`.
 ghost use Rattle.std.specs.Prelude.{◌≡◌, ◌≤◌, length};
 ghost use Rattle.definition.specs.Settings.{word_bytes, link_overhead};
 ghost use Rattle.definition.specs.Slots.{marked, compressed_mark, is_free, is_continuation, is_head, size_of, total_of, head_link, link_of, starts, count_of, mark_of};

@@ -22,7 +22,8 @@ fn same_key(slot: &[u8], at: usize, key: &[u8]) -> bool
     PartialKey::at(slot, at) == PartialKey::at(key, KEY_SKIP)
 }
 
-// Whether the key that is checked, if one is, differs from the one in the slot. An unkeyed table ignores it, whatever its length.
+// Whether the key that is checked, if one is, differs from the one in the slot. An unkeyed table ignores it, whatever its length: so here
+// and above test 4 is asked, and no type of a whole key stands for it, which would ask more.
 #[tactic(auto, using(crate::proofs::KeyLaws::asked_keys))]
 pub fn key_differs(slot: &[u8], layout: Layout, key: Option<&[u8]>) -> bool
     requires { (length slot.now ≡ layout.settings.size) × (checked_key_test layout.settings (lent_key key) ≡ 0) }

@@ -1,5 +1,6 @@
 // The calls of the station for C and whatever links C, which include/pyltarka.h declares: each is a call of `table` under its whole
-// contract, its settings and its answer in C's form. The crate station_c exports them.
+// contract, its settings and its answer in C's form: C has no Option and no Result, hence a flag beside the key, a number that is 0 or the
+// refusal, and a struct for each answer. The crate station_c exports them.
 #![tactic(auto)]
 
 mod answers;

@@ -1,5 +1,7 @@
 // The writing loop: prefix and content laid into slots, what is left of the old chain freed, the header stored.
 // Nothing here refuses: the checks are made before, by others, and from the first store on nothing can go wrong.
+// 0 stands for no slot, as in the layout and in the definition's words for it (`Linked`, `taken_from`): an Option would be made of each link
+// and unmade again. The header stays beside the table: it runs ahead of the one in slot 0.
 #![tactic(auto)]
 
 pub mod records;
@@ -90,7 +92,8 @@ fn clear_slot(table: &mut [u8], layout: Layout, i: u64, h: Header) -> Header
     Header { removed: i, ..h }
 }
 
-// Frees the chain from slot `at` on, first to last, and stores the header, unless no slot was taken or freed.
+// Frees the chain from slot `at` on, first to last, and stores the header, unless no slot was taken or freed (`same`: one store more or less,
+// for which a closure would be no plainer).
 fn clear_chain(table: &mut [u8], layout: Layout, at: u64, h: Header, same: bool)
     requires { (old : List ℕ) × (free : List ℕ) × Freeing layout.settings table.old old free at h }
     ensures { (old free : List ℕ) → Freeing layout.settings table.old old free at h
@@ -141,7 +144,8 @@ fn store_linked(
 }
 
 // Lays a body into the slots of the old chain at `at` (none where it is 0), then into free ones, then into unused ones, frees what is
-// left of the old chain and stores the header, unless no slot was taken or freed. Answers the first slot.
+// left of the old chain and stores the header, unless no slot was taken or freed. Answers the first slot. `pos` is a place in prefix and
+// content at once, and moves by what a part holds: no slice of either stands for it.
 fn overwrite_chain(
     table: &mut [u8],
     layout: Layout,
