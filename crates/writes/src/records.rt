@@ -14,8 +14,8 @@ use slots::keys::write_prefix;
 use slots::layout::Layout;
 use writer::Body;
 
-// Writes a record with a count of 1 over the chain at `at`, a new one where that is 0, the link that leads nowhere. `same` says that it has as many parts as the
-// chain. Answers its first slot.
+// Writes a record with a count of 1 over the chain at `at`, a new one where that is 0, the link that leads nowhere. `same` says that it has
+// as many parts as the chain. Answers its first slot.
 #[tactic(auto, unfolding(definition::specs::Effect::filled_after))]
 pub fn write_record(
     table: &mut [u8],
