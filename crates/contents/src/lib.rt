@@ -7,8 +7,7 @@ ghost use Rattle.definition.specs.Chains.{sized_body};
 ghost use Rattle.contents.specs.Pieces.{SizeFits, StartFits, PartFits, start_piece, start_next, part_piece, part_next, content_at, Copying, Copyable};
 
 use definition::{INDEX_SIZE, SIZE_SIZE};
-use reader::{Slot, is_continuation, part_size, read_head_next, read_next};
-use slots::layout::Layout;
+use reader::{Slot, Table, is_continuation, part_size, read_head_next, read_next};
 
 // A slot's piece of prefix and content, and the link to the next part, 0 if there is none.
 #[derive(Clone, Copy)]
@@ -76,24 +75,16 @@ fn copy_piece(piece: &[u8], skip: usize, n: usize, out: &mut [u8], to: usize) ->
 }
 
 // Copies n bytes of the later parts from slot `start` on, after the first `from` of them, into out at `to`.
-fn copy_rest(
-    table: &[u8],
-    layout: Layout,
-    start: u64,
-    from: usize,
-    n: usize,
-    out: &mut [u8],
-    to: usize,
-)
-    requires { (T : List ℕ) × Copying layout.settings table.now T start from n out.old to }
-    ensures { (T : List ℕ) → Copying layout.settings table.now T start from n out.old to → out.new ≡ T }
+fn copy_rest(table: &Table, start: u64, from: usize, n: usize, out: &mut [u8], to: usize)
+    requires { (T : List ℕ) × Copying table.now.layout.settings table.now.bytes.now T start from n out.old to }
+    ensures { (T : List ℕ) → Copying table.now.layout.settings table.now.bytes.now T start from n out.old to → out.new ≡ T }
 {
     let mut at = start;
     let mut skip = from;
     let mut left = n;
     let mut pos = to;
     while left > 0 {
-        let piece = part_piece(&Slot::of(table, layout, at));
+        let piece = part_piece(&Slot::of(table.bytes, table.layout, at));
         let (passed, copied) = copy_piece(piece.bytes, skip, left, out, pos);
         at = piece.next;
         skip -= passed;
@@ -103,20 +94,12 @@ fn copy_rest(
 }
 
 // Copies n bytes of the content of the chain in slot `at`, from place `from` of the content on, to the front of out.
-pub fn copy_content(table: &[u8], layout: Layout, at: u64, from: usize, n: usize, out: &mut [u8])
-    requires { Copyable layout.settings table.now at from n out.old }
-    ensures { out.new ≡ put out.old 0 (take n (drop from (content_at layout.settings table.now at))) }
+pub fn copy_content(table: &Table, at: u64, from: usize, n: usize, out: &mut [u8])
+    requires { Copyable table.now.layout.settings table.now.bytes.now at from n out.old }
+    ensures { out.new ≡ put out.old 0 (take n (drop from (content_at table.now.layout.settings table.now.bytes.now at))) }
 {
-    let piece = start_piece(&Slot::of(table, layout, at));
-    let skip = layout.settings.prefix_len() + from;
+    let piece = start_piece(&Slot::of(table.bytes, table.layout, at));
+    let skip = table.layout.settings.prefix_len() + from;
     let (passed, copied) = copy_piece(piece.bytes, skip, n, out, 0);
-    copy_rest(
-        table,
-        layout,
-        piece.next,
-        skip - passed,
-        n - copied,
-        out,
-        copied,
-    );
+    copy_rest(table, piece.next, skip - passed, n - copied, out, copied);
 }

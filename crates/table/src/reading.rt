@@ -36,12 +36,12 @@ pub fn read(
 ) -> Result<Record, Refusal>
     ensures { (found_of result, output.new) ≡ read s (lent_key key.entry) slot table.now output.old }
 {
-    let opened = Table::open(table, s)?;
-    let record = find_record(&opened, slot, key)?;
+    let table = Table::open(table, s)?;
+    let record = find_record(&table, slot, key)?;
     if record.len > output.len() as u64 {
         return Err(Refusal::Output);
     }
-    copy_content(table, opened.layout, slot, 0, record.len as usize, output);
+    copy_content(&table, slot, 0, record.len as usize, output);
     Ok(record)
 }
 

@@ -10,7 +10,7 @@ use Rattle.contents.proofs.copy_content.Goals.{After-copy_piece-passed}
 
 -- after the first piece
 left : (c : After-copy_piece-passed)
-    → Copying c.args.layout.settings c.args.table.now (put c.args.out.now 0 (take c.args.n (drop c.args.from (content_at c.args.layout.settings c.args.table.now c.args.at)))) c.start_piece-piece.result.next (c.prefix_len.result + c.args.from - c.copy_piece-passed.result.0) (c.args.n - c.copy_piece-passed.result.1) c.copy_piece-passed.new.out c.copy_piece-passed.result.1
+    → Copying c.args.table.now.layout.settings c.args.table.now.bytes.now (put c.args.out.now 0 (take c.args.n (drop c.args.from (content_at c.args.table.now.layout.settings c.args.table.now.bytes.now c.args.at)))) c.start_piece-piece.result.next (c.prefix_len.result + c.args.from - c.copy_piece-passed.result.0) (c.args.n - c.copy_piece-passed.result.1) c.copy_piece-passed.new.out c.copy_piece-passed.result.1
 left c =
     let e = ap₂ start_piece (ap (λ l. l.settings) c.of.ensures.1) c.of.ensures.0 in
     let f = ap₂ start_next (ap (λ l. l.settings) c.of.ensures.1) c.of.ensures.0 in
