@@ -19,7 +19,8 @@ use Rattle.laws.proofs.Views.{apart, length_view}
 use Rattle.laws.proofs.Sizes.{Sizes, sizes, slot_inside, slots_inside}
 use Rattle.laws.proofs.Chains.{TailAt, ChainAt, chain_head}
 use Rattle.laws.proofs.Passed.{Opened, opened, chain_passed}
-use Rattle.walks.proofs.ChainWalks.{rest_most, slot_most, size_fits, size_least}
+use Rattle.walks.proofs.ChainWalks.{rest_most, slot_most}
+use Rattle.laws.proofs.FixedParts.{size_fits, size_least}
 use Rattle.contents.specs.Pieces.{start_piece, start_next, StartFits, Copying, Copyable, content_at}
 use Rattle.contents.proofs.CopyLaws.{Ahead, onward}
 

@@ -74,7 +74,8 @@ fn copy_piece(piece: &[u8], skip: usize, n: usize, out: &mut [u8], to: usize) ->
     (k, c)
 }
 
-// Copies n bytes of the later parts from slot `start` on, after the first `from` of them, into out at `to`.
+// Copies n bytes of the later parts from slot `start` on, after the first `from` of them, into out at `to`. A `while`, since how many parts
+// that takes shows at its end only; and places, since a slice of what is left of out would have to be lent on anew by each part.
 fn copy_rest(table: &Table, start: u64, from: usize, n: usize, out: &mut [u8], to: usize)
     requires { (T : List ℕ) × Copying table.now.layout.settings table.now.bytes.now T start from n out.old to }
     ensures { (T : List ℕ) → Copying table.now.layout.settings table.now.bytes.now T start from n out.old to → out.new ≡ T }

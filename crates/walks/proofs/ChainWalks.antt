@@ -26,6 +26,7 @@ use Rattle.laws.proofs.Lists.{length_part}
 use Rattle.laws.proofs.Views.{apart}
 use Rattle.laws.proofs.Chains.{rest_walk}
 use Rattle.laws.proofs.Passed.{head_unkeyed}
+use Rattle.laws.proofs.FixedParts.{size_fits}
 use Rattle.laws.proofs.Heads.{parse_fault, parse_part}
 use Rattle.walks.specs.declared.Extent.{Extent}
 use Rattle.walks.specs.Met.{RestIs, ChainIs, ChainTested}
@@ -125,25 +126,6 @@ pub head_at : (s : Settings) (f : View) (F h : ℕ) (k : PartKind) (n x : ℕ) �
 head_at s f F h k n x z b e q =
     let t = starts_with s (f h) (Head x) n (ap (λ (k : PartKind). part k n) (sym q) ∙ e) in
     (b, omega arith, t.0, t.1, t.2)
-
--- a plain slot's size is not too large
-pub size_fits : (s : Settings) (b : List ℕ) → s.multipart ≡ false → head_fault s none 8 b ≡ 0 → size_of b ≤ s.size - 2
-unfolding head_fault
-size_fits s b m e =
-    let t₁ = first_pass _ _ e in
-    let t₂ = first_pass _ _ t₁.1 in
-    let t₃ = first_pass _ _ t₂.1 in
-    let t₄ = first_pass _ _ t₃.1 in
-    let t₅ = first_pass _ _ t₄.1 in
-    ltb-false (s.size - 2) (size_of b) (sym (and_skip (not s.multipart) _ (ap not m)) ∙ passed 9 _ (omega arith) t₅.0)
-
--- nor too small
-pub size_least : (s : Settings) (b : List ℕ) → s.multipart ≡ false → head_fault s none 8 b ≡ 0 → prefix_len s ≤ size_of b
-unfolding head_fault
-size_least s b m e =
-    let t₁ = first_pass _ _ e in
-    let t₂ = first_pass _ _ t₁.1 in
-    ltb-false (size_of b) (prefix_len s) (sym (and_skip (not s.multipart) _ (ap not m)) ∙ passed 9 _ (omega arith) t₂.0)
 
 one_part : (s : Settings) (f : View) (F h : ℕ) → 2 ≤ s.size → length (f h) ≡ s.size → head_fault s none 8 (f h) ≡ 0 → s.multipart ≡ false → (n : ℕ) → n ≡ size_of (f h)
     → ChainIs (Ok (record { parts = 1; bytes = n })) s f (walk s f F h)
