@@ -10,7 +10,7 @@ use native.Mathlib.Nat.{suc-mul}
 use native.Mathlib.Omega.{arith}
 use lib.Dec.{eqb}
 use lib.ListN.{length, drop, length-append, length-drop, length-take}
-use borrow.Author.Tests.{eq-eqb, ne_eqb, ltb-false}
+use borrow.Author.Tests.{eq-eqb, ne_eqb}
 use Rattle.definition.specs.declared.Settings.{Settings}
 use Rattle.definition.specs.declared.Refusal.{Refusal}
 use Rattle.definition.specs.declared.PartKind.{PartKind}
@@ -20,8 +20,8 @@ use Rattle.definition.specs.Settings.{prefix_len, head_overhead}
 use Rattle.definition.specs.Slots.{View, view, filled, size_of, total_of, head_link, mark_of}
 use Rattle.definition.specs.Chains.{refused, part, head_fault, start_part, head_parse, Walk, whole, parts_from, sized_body, rest_body, body_of, content_of, total_good, with_total, walk}
 use Rattle.definition.specs.Calls.{slot_test}
-use Rattle.laws.proofs.Conditions.{cond_yes, cond_no, and_skip}
-use Rattle.laws.proofs.Tests.{number_some, refuse_yes, refuse_no, first_skip, first_refuses, first_pass, first_one, passed}
+use Rattle.laws.proofs.Conditions.{cond_yes, cond_no}
+use Rattle.laws.proofs.Tests.{number_some, refuse_yes, refuse_no, first_skip, first_refuses, first_one}
 use Rattle.laws.proofs.Lists.{length_part}
 use Rattle.laws.proofs.Views.{apart}
 use Rattle.laws.proofs.Chains.{rest_walk}
