@@ -12,6 +12,7 @@ use definition::{Record, Refusal, SIZE_SIZE, Settings};
 use reader::{Table, read_compressed, read_count};
 
 // The tests of a read before its output, and what is told of the record.
+#[inline(always)]
 fn find_record(table: &Table, slot: u64, key: Option<&[u8]>) -> Result<Record, Refusal>
     ensures { FoundIs result table.now.layout.settings table.now.bytes.now slot (lent_key key.entry) }
 {

@@ -78,6 +78,7 @@ fn walk_chain(table: &Table, at: u64, start: Part) -> Result<Extent, Refusal>
 }
 
 // The tests of a call on the chain in slot `at`, in order: the slot (7), its head (8, 9), its parts (9, 10), its total (10).
+#[inline(always)]
 pub fn check_chain(table: &Table, at: u64, key: Option<&[u8]>) -> Result<Extent, Refusal>
     requires { checked_key_test table.now.layout.settings (lent_key key) ≡ 0 }
     ensures { ChainTested result table.now.layout.settings (view table.now.layout.settings.size table.now.bytes.now) at (lent_key key.entry) }
