@@ -1,4 +1,5 @@
-// All the tests of insert, replace and remove, in 01's order. What they leave is what the effect asks: the settings that passed.
+// All the tests of insert, replace and remove, in 01's order, of table, settings, key and content as they were lent, each untested. What they
+// leave is what the effect asks: the settings that passed.
 ghost use Rattle.checks.specs.Stages.{TestedIs, insert_tests, remove_tests, FittedIs};
 
 use crate::room::check_room;

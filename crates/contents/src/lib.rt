@@ -9,7 +9,7 @@ ghost use Rattle.contents.specs.Pieces.{SizeFits, StartFits, PartFits, start_pie
 use definition::{INDEX_SIZE, SIZE_SIZE};
 use reader::{Slot, Table, is_continuation, part_size, read_head_next, read_next};
 
-// A slot's piece of prefix and content, and the link to the next part, 0 if there is none.
+// A slot's piece of prefix and content, and the link to the next part, 0 if there is none, as slots store it and the definition has it.
 #[derive(Clone, Copy)]
 struct Piece<'a> {
     bytes: &'a [u8],
@@ -28,7 +28,7 @@ fn sized_piece<'a>(slot: &Slot<'a>) -> Piece<'a>
     }
 }
 
-// The piece in the slot where a chain starts.
+// The piece in the slot where a chain starts: apart from a later part's, since another mark tells its kind and its link lies elsewhere.
 #[tactic(auto, using(laws::proofs::Overheads::overhead_bounds), unfolding(crate::specs::Pieces::start_piece, crate::specs::Pieces::start_next))]
 fn start_piece<'a>(slot: &Slot<'a>) -> Piece<'a>
     requires { StartFits slot.now.layout.settings slot.now.bytes.now }
@@ -59,8 +59,8 @@ fn part_piece<'a>(slot: &Slot<'a>) -> Piece<'a>
     }
 }
 
-// Passes over `skip` bytes and copies n into out at `to`, as far as the piece goes. It answers how many bytes it passed over, and how
-// many it copied: what is left lies in later parts.
+// Passes over `skip` bytes and copies n into out at `to` (see `copy_rest`), as far as the piece goes. It answers how many bytes it passed
+// over, and how many it copied: what is left lies in later parts.
 #[tactic(auto, using(laws::proofs::Puts::lent))]
 fn copy_piece(piece: &[u8], skip: usize, n: usize, out: &mut [u8], to: usize) -> (usize, usize)
     requires { to + n ≤ length out.old }

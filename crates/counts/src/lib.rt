@@ -24,7 +24,7 @@ pub fn check_count(table: &Table, at: u64) -> Result<u32, Refusal>
 }
 
 // A positive step adds, stopping at the lock; a zero or negative one leaves a locked count, else takes its magnitude off. None is left
-// where that takes all.
+// where that takes all: not checked_sub, since a count that falls to 0 is none too.
 #[tactic(auto, using(crate::proofs::StepLaws::steps))]
 pub fn after_step(count: u32, step: i32) -> Option<u32>
     ensures { result ≡ stepped_to (new_count count step) }
@@ -41,7 +41,7 @@ pub fn after_step(count: u32, step: i32) -> Option<u32>
     }
 }
 
-// Stores a count in its place in slot i; nothing else changes.
+// Stores a count in its place in slot i; nothing else changes. Table and layout are apart as in writer: what is written is lent.
 #[tactic(auto, using(laws::proofs::Overheads::start_most))]
 pub fn store_count(table: &mut [u8], layout: Layout, i: u64, count: u32)
     requires { i * layout.settings.size + layout.settings.size ≤ length table.old }

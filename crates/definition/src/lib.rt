@@ -39,7 +39,7 @@ pub const MULTIPART_ENTRY_SIZE: usize = 4096;
 pub const LOCKED_REF: u32 = 0xffff_ffff;
 
 // A table's settings: the entry size E in bytes, multipart or fixed, counted or not, keyed or not.
-#[derive(Clone, Copy, Debug, PartialEq, Eq)]
+#[derive(Clone, Copy, Debug, Default, PartialEq, Eq)]
 pub struct Settings {
     pub size: usize,
     pub multipart: bool,
@@ -66,7 +66,7 @@ impl Settings {
         self.count_len() + self.key_len()
     }
 
-    // The bytes of the count.
+    // The bytes of the count. It and the key's are two functions, as the definition has two words.
     #[tactic(auto, unfolding(crate::specs::Settings::count_len))]
     pub fn count_len(self) -> usize
         ensures { result ≡ count_len self }
@@ -122,6 +122,7 @@ pub enum Refusal {
 }
 
 impl Refusal {
+    // 01's number, by the name that the documents have for it.
     pub fn number(self) -> u32
         ensures { result ≡ number_of self }
     {

@@ -5,6 +5,7 @@ ghost use Rattle.std.specs.Prelude.{◌≡◌, ◌+◌, ◌≤◌, length};
 ghost use Rattle.definition.specs.Numbers.{num};
 ghost use Rattle.definition.specs.Settings.{key_bytes};
 
+use definition::PARTIAL_SIZE;
 use numbers::Number;
 
 // The slot that is read, and the place of the next byte.
@@ -27,7 +28,7 @@ pub struct PartialKey {
 impl PartialKey {
     ghost use Rattle.entry.specs.Reading.{key_at};
 
-    // The partial key at place `at`.
+    // The partial key at place `at`, its words one by one: a word read too early is a must-fail edit.
     pub fn at(s: &[u8], at: usize) -> PartialKey
         requires { at + key_bytes ≤ length s.now }
         ensures { result ≡ key_at at s.now }
@@ -83,12 +84,12 @@ impl<'a> EntryRef<'a> {
         ensures { (result ≡ key_at self.old.at self.old.slot.now) × Moved self.old self.new key_bytes }
     {
         let k = PartialKey::at(self.slot, self.at);
-        self.at += definition::PARTIAL_SIZE;
+        self.at += PARTIAL_SIZE;
         k
     }
 }
 
-// The eight-byte number at place `at` of a slot, by a reader that skips to it.
+// The eight-byte number at place `at` of a slot, by a reader that skips to it: for one number a caller would make a reader and drop it.
 pub fn u64_at(slot: &[u8], at: usize) -> u64
     requires { at + 8 ≤ length slot.now }
     ensures { result ≡ num at 8 slot.now }

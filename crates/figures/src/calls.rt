@@ -28,7 +28,7 @@ pub struct Call<'a, R> {
 }
 
 impl<R: Print> Call<'_, R> {
-    // Does what a line of this kind asks.
+    // Does what a line of this kind asks. A match, since a closure for each would be made and handed out.
     pub fn make(&mut self, kind: Kind) -> io::Result<()> {
         match kind {
             Kind::Insert => self.insert(),
@@ -72,7 +72,7 @@ impl<R: Print> Call<'_, R> {
         None
     }
 
-    // ---- the calls that write
+    // ---- the calls that write: insert and replace are two, since each has its own call and answer
 
     fn insert(&mut self) -> io::Result<()> {
         let mut key_room = [0; values::ROOM];

@@ -9,6 +9,7 @@ mod kinds;
 ghost use Rattle.std.specs.Prelude.{◌≤◌, length, IfOk};
 
 use calls::Call;
+use definition::Settings;
 use kinds::Kind;
 use lines::words;
 use std::io;
@@ -39,37 +40,45 @@ fn read_full<'a>(reader: &mut impl Read, room: &'a mut [u8]) -> io::Result<&'a [
     Ok(&room[..done])
 }
 
-// Each line in turn. The calls are on the table of the last line `table`; before the first there is none, and every call is refused.
+// The table that calls are on, as the last line `table` has it; before the first there is none, and every call is refused.
+#[derive(Clone, Copy, Default)]
+struct Opened {
+    settings: Settings,
+    len: usize,
+}
+
+// Each line in turn.
 fn answer_all(rt: &impl Print, text: &[u8], buffer: &mut [u8]) -> io::Result<()> {
-    let mut last_table: &[u8] = &[];
+    let mut opened = Opened::default();
     for ended in text.split_inclusive(|b| *b == b'\n') {
         let line = ended.strip_suffix(b"\n").unwrap_or(ended);
         let kind = Kind::of(line);
         if kind == Some(Kind::Table) {
-            last_table = line;
+            opened = Opened {
+                settings: calls::settings(line),
+                len: words::number_at(line, 5) as usize,
+            };
         }
-        answer(rt, kind, line, last_table, buffer)?;
+        answer(rt, kind, line, opened, buffer)?;
     }
     Ok(())
 }
 
-// Writes a line and its answer; the table that its call is on is the front of the buffer, as the last line `table` says.
+// Writes a line and its answer; the table that its call is on is the front of the buffer.
 fn answer(
     rt: &impl Print,
     kind: Option<Kind>,
     line: &[u8],
-    last_table: &[u8],
+    opened: Opened,
     buffer: &mut [u8],
 ) -> io::Result<()> {
     rt.write_all(line)?;
-    let settings = calls::settings(last_table);
-    let len = words::number_at(last_table, 5) as usize;
-    match (kind, buffer.get_mut(..len)) {
+    match (kind, buffer.get_mut(..opened.len)) {
         (Some(kind), Some(table)) => Call {
             rt,
             line,
             table,
-            settings,
+            settings: opened.settings,
         }
         .make(kind)?,
         _ => answers::print_unknown(rt)?,

@@ -55,7 +55,7 @@ fn spelled(digits: &[u8]) -> Option<Value<'_>> {
     })
 }
 
-// A number alone is a key's; with a seed it is a content's length.
+// A number alone is a key's; with a seed it is a content's length. `7@` is key 7 too, so an empty seed and none are one.
 fn made(word: &[u8]) -> Option<Value<'_>> {
     let number = words::decimal(words::part(word, 0, b'@'))?;
     let seed = words::rest(word, 1, b'@');
@@ -93,6 +93,7 @@ pub fn fill(room: &mut [u8], with: Filling<'_>) {
     }
 }
 
+// An enum and its match: a closure for each would be made and handed out.
 impl Filling<'_> {
     // Byte i of key k is k + i, and of a content with seed s it is s + 7 i + i / 256, both modulo 256.
     fn byte(self, i: usize) -> u8 {
@@ -126,6 +127,7 @@ fn hex_digit(digits: &[u8], at: usize) -> u8
     digits.get(at).and_then(|b| words::digit(*b)).unwrap_or(0)
 }
 
+// What is cut off is meant.
 fn low(n: u64) -> u8 {
     (n % 256) as u8
 }

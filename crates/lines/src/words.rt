@@ -1,5 +1,6 @@
 // Texts cut at a separator, as a line into words; words compared, and read as numbers. Nothing here asks anything of its caller: a part
-// that is not there is empty, and what is read of a word that spells no number means nothing.
+// that is not there is empty, and of a word that spells no number 0 is read. A line is lent whole and each call asks another place of it, so
+// both are parameters.
 ghost use Rattle.std.specs.Prelude.{◌≡◌, ◌≢◌, ◌<◌, ◌↔◌, IsTrue, IfSome, IfNone};
 ghost use Rattle.std.specs.List.{All};
 ghost use Rattle.lines.specs.Words.{parts_of, part_at, EndsIn};
@@ -48,7 +49,7 @@ pub fn which(word: &[u8], names: &[u8], separator: u8) -> Option<usize>
 
 // ---- numbers
 
-// The value of a hexadecimal digit.
+// The value of a hexadecimal digit. Not char::to_digit: capitals are no digits here.
 pub fn digit(byte: u8) -> Option<u8>
     ensures { IfSome result (λ value. value < 16) }
 {

@@ -17,7 +17,7 @@ pub trait Number: Copy {
 
     ghost value: { Self → ℕ };
 
-    // The number at place `at`.
+    // The number at place `at`, which is another at each call: slice and place that go together are entry's `EntryRef`.
     fn read(s: &[u8], at: usize) -> Self
         requires { at + SIZE ≤ length s.now }
         ensures { value result ≡ num at SIZE s.now };
@@ -28,7 +28,8 @@ pub trait Number: Copy {
         ensures { s.new ≡ put s.old at (bytes SIZE (value self)) };
 }
 
-// The three differ in the width alone, and are written out: an impl by a macro of ours is refused.
+// The three differ in the width alone, and are written out: an impl by a macro of ours is refused. Their bytes stand one by one, since wrong
+// orders of them are must-fail edits.
 impl Number for u16 {
     const SIZE: usize = 2;
 

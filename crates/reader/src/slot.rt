@@ -24,7 +24,7 @@ pub struct Slot<'a> {
 }
 
 impl<'a> Slot<'a> {
-    // Slot i of a table.
+    // Slot i of a table, which may be one that is being written: so of bytes and layout.
     #[tactic(auto, unfolding(definition::specs::Slots::view))]
     pub fn of(table: &'a [u8], layout: Layout, i: u64) -> Slot<'a>
         requires { i * layout.settings.size + layout.settings.size ≤ length table.now }
@@ -36,7 +36,7 @@ impl<'a> Slot<'a> {
         }
     }
 
-    // Whether a plain slot counts fewer bytes than the prefix has.
+    // Whether a plain slot counts fewer bytes than the prefix has. It and the next are two tests, since the count is tested between them.
     fn size_below_prefix(&self) -> bool
         ensures { result ≡ (not self.now.layout.settings.multipart && ltb (size_of self.now.bytes.now) (prefix_len self.now.layout.settings)) }
     {

@@ -6,10 +6,10 @@ ghost use Rattle.definition.specs.Slots.{view, header_of};
 ghost use Rattle.definition.specs.Effect.{header_store};
 
 use crate::layout::Layout;
-use definition::Header;
+use definition::{Header, INDEX_SIZE};
 use numbers::Number;
 
-// LAST_REMOVED and FILLED of a table that has a slot 0. A stored FILLED of 0 reads as 1.
+// LAST_REMOVED and FILLED of a table that has a slot 0. A stored FILLED of 0 reads as 1. A `Table` is made of it, so it takes bytes and layout.
 #[tactic(auto, using(crate::proofs::HeaderLaws::header_is))]
 pub fn read_header(table: &[u8], layout: Layout) -> Header
     requires { layout.settings.size ≤ length table.now }
@@ -17,7 +17,7 @@ pub fn read_header(table: &[u8], layout: Layout) -> Header
 {
     Header {
         removed: u64::read(table, 0),
-        filled: u64::read(table, definition::INDEX_SIZE).max(1),
+        filled: u64::read(table, INDEX_SIZE).max(1),
     }
 }
 
@@ -28,7 +28,7 @@ pub fn write_header(table: &mut [u8], h: Header)
     ensures { table.new ≡ put table.old 0 (header_store h.removed h.filled).1 }
 {
     h.removed.write(table, 0);
-    h.filled.write(table, definition::INDEX_SIZE);
+    h.filled.write(table, INDEX_SIZE);
 }
 
 // Refusal 3: LAST_REMOVED not below FILLED, or FILLED above the capacity.

@@ -13,7 +13,7 @@ use definition::{KEY_SKIP, PARTIAL_SIZE, PREFIX_SIZE, Settings};
 use entry::PartialKey;
 use numbers::Number;
 
-// Whether the 26 bytes of the slot at place `at` are the key's bytes 6 to 31.
+// Whether the 26 bytes of the slot at place `at` are the key's bytes 6 to 31. Two slices, each with a place of its own.
 #[tactic(auto, using(crate::proofs::KeyLaws::same_words))]
 fn same_key(slot: &[u8], at: usize, key: &[u8]) -> bool
     requires { (at + key_bytes ≤ length slot.now) × (length key.now ≡ hash_bytes) }
@@ -23,7 +23,7 @@ fn same_key(slot: &[u8], at: usize, key: &[u8]) -> bool
 }
 
 // Whether the key that is checked, if one is, differs from the one in the slot. An unkeyed table ignores it, whatever its length: so here
-// and above test 4 is asked, and no type of a whole key stands for it, which would ask more.
+// and above test 4 is asked, and no type of a whole key stands for it, which would ask more. And of the slot its bytes: `Slot` is made above.
 #[tactic(auto, using(crate::proofs::KeyLaws::asked_keys))]
 pub fn key_differs(slot: &[u8], layout: Layout, key: Option<&[u8]>) -> bool
     requires { (length slot.now ≡ layout.settings.size) × (checked_key_test layout.settings (lent_key key) ≡ 0) }

@@ -1,5 +1,6 @@
 // What crosses to C and back, by value: the settings, and what each call answers. C's names are these in lower case, with `_`:
-// pyltarka_settings and so on, in include/pyltarka.h, member for member.
+// pyltarka_settings and so on, in include/pyltarka.h, member for member. C has no Result and no Option: each answer is a struct of its own,
+// with 0 or the refusal as a number in it, and a conversion to it.
 ghost use Rattle.std.specs.Prelude.{◌≡◌};
 ghost use Rattle.definition.specs.Answers.{inserted_of, written_of, changed_of, found_of, free_count_of};
 ghost use Rattle.definition.specs.Calls.{checked_key};
@@ -150,7 +151,7 @@ impl From<Result<u64, Refusal>> for PyltarkaCounted {
     }
 }
 
-// What replace and remove answer, for C: the number alone.
+// What replace and remove answer, for C: the number alone. No From: neither Result nor u32 is ours.
 pub fn number_in(answer: Result<(), Refusal>) -> u32
     ensures { result ≡ number_in (written_of answer) }
 {

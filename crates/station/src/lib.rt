@@ -81,7 +81,8 @@ pub fn pyltarka_read(
     table::read(table, s.into(), slot, key_if(checked, key), output).into()
 }
 
-// The fixed read: where in the table the content starts, and what its companion tells. On a multipart table it gives 1.
+// The fixed read: where in the table the content starts, and what its companion tells. On a multipart table it gives 1. No From makes its
+// struct: where the content starts is not in the answer of the call.
 pub fn pyltarka_read_fixed(
     table: &[u8],
     s: PyltarkaSettings,

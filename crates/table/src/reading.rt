@@ -61,7 +61,8 @@ pub fn find_fixed(
     find_record(&Table::open(table, s)?, slot, key)
 }
 
-// The fixed read: the content bytes of the slot, a part of the lent table from their place on; empty where it is refused.
+// The fixed read: the content bytes of the slot, a part of the lent table from their place on; empty where it is refused, as 01 asks: its
+// companion has the refusal.
 #[tactic(auto, using(crate::proofs::ReadLaws::fixed_inside))]
 pub fn read_fixed<'a, 'b>(
     table: &'a [u8],

@@ -7,7 +7,7 @@ use checks::writing::{check_insert, check_remove, check_replace};
 use definition::{Refusal, Settings};
 use writes::records::{free_record, write_record};
 
-// Stores a record under a key with its content and compressed mark; answers the slot of its head.
+// Stores a record under a key with its content and compressed mark; answers the slot of its head. There is no chain to write over: 0.
 pub fn insert(
     table: &mut [u8],
     s: Settings,

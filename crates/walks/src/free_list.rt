@@ -16,6 +16,7 @@ pub fn check_free_refs(table: &[u8], layout: Layout, h: Header) -> Result<u64, R
     ensures { FreeIs result (free_from (view layout.settings.size table.now) h.filled (h.filled - 1) h.removed) }
 {
     let most = h.filled - 1;
+    // 0 ends it, as in the layout.
     let mut at = h.removed;
     for members in 0..most {
         if at == 0 {

@@ -1,6 +1,7 @@
 // One slot written: each kind of slot laid over its front, and the same in slot i of a table, where every other byte stays. Both forms stay:
 // the one asks a slot alone, the other is what the documents name. Here and above a table that is written is a slice beside its layout, and
-// `i` a number that fits it: a type that held the slice would have to say in each contract that the rest of it stays.
+// `i` a number that fits it: a type that held the slice would have to say in each contract that the rest of it stays. A place in a body is
+// another at each call, and what must lie behind it another for each kind of part.
 #![tactic(auto)]
 
 pub mod body;

@@ -93,7 +93,8 @@ fn clear_slot(table: &mut [u8], layout: Layout, i: u64, h: Header) -> Header
 }
 
 // Frees the chain from slot `at` on, first to last, and stores the header, unless no slot was taken or freed (`same`: one store more or less,
-// for which a closure would be no plainer).
+// for which a closure would be no plainer). A `while`: links are followed, and nothing is counted. The lists that it is promised of are none of
+// the code's, so a record of them stands in each contract, and no type.
 fn clear_chain(table: &mut [u8], layout: Layout, at: u64, h: Header, same: bool)
     requires { (old : List ℕ) × (free : List ℕ) × Freeing layout.settings table.old old free at h }
     ensures { (old free : List ℕ) → Freeing layout.settings table.old old free at h
@@ -145,7 +146,7 @@ fn store_linked(
 
 // Lays a body into the slots of the old chain at `at` (none where it is 0), then into free ones, then into unused ones, frees what is
 // left of the old chain and stores the header, unless no slot was taken or freed. Answers the first slot. `pos` is a place in prefix and
-// content at once, and moves by what a part holds: no slice of either stands for it.
+// content at once, and moves by what a part holds: no slice of either stands for it, and how many parts that takes shows as they are written.
 fn overwrite_chain(
     table: &mut [u8],
     layout: Layout,
