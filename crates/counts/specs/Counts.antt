@@ -1,6 +1,6 @@
 -- What is said of a count that was found, and of one after a step.
 use Rattle.std.specs.Prelude.{◌≡◌, [], ◌∷◌, ℕ, Option, Some, None, Result, Ok, Err}
-use Rattle.std.proofs.Math.Option.{Option as Left, none, some}
+use Rattle.std.proofs.Math.Option.{Option as Maybe, none, some}
 use Rattle.definition.specs.declared.Refusal.{Refusal}
 use Rattle.definition.specs.declared.Settings.{Settings}
 use Rattle.definition.specs.Tests.{number_of, first}
@@ -14,6 +14,6 @@ CountIs (Ok n) s f h = (first (slot_test f h ∷ head_fault s none 8 (f h) ∷ [
 CountIs (Err r) s f h = first (slot_test f h ∷ head_fault s none 8 (f h) ∷ []) ≡ number_of r
 
 -- a count after a step, as the code answers it
-abbrev pub stepped_to : Left ℕ → Option ℕ
+abbrev pub stepped_to : Maybe ℕ → Option ℕ
 stepped_to none = None
 stepped_to (some n) = Some n

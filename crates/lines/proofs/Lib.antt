@@ -1,1 +1,2 @@
+-- Cuts of a text at a separator.
 pub mod Cuts

@@ -33,10 +33,10 @@ use Rattle.laws.proofs.Marks.{same_bytes_refl, same_bytes_eq}
 use Rattle.laws.proofs.Overheads.{count_most, start_fits, start_most}
 
 -- two tests that say the same
-both_ways : (a b : Bool) → (a ≡ true → b ≡ true) → (b ≡ true → a ≡ true) → a ≡ b
-both_ways true b f g = sym (f refl)
-both_ways false true f g = g refl
-both_ways false false f g = refl
+same_truth : (a b : Bool) → (a ≡ true → b ≡ true) → (b ≡ true → a ≡ true) → a ≡ b
+same_truth true b f g = sym (f refl)
+same_truth false true f g = g refl
+same_truth false false f g = refl
 
 -- ---- 26 bytes compared by words
 
@@ -106,7 +106,7 @@ module _ (b key : List ℕ) (at : ℕ) (fit : (at + 26 ≤ length b) × (length 
       ap (λ (k : PartialKey). same k (key_at 6 key)) words_same ∙ same_refl (key_at 6 key)
 
   pub same_words : (k l : PartialKey) (r : Bool) → k ≡ key_at at b → l ≡ key_at 6 key → r ≡ same k l → r ≡ same_bytes (take 26 (drop at b)) (partial_key key)
-  same_words k l r ek el er = er ∙ rw (ek, el) (both_ways _ _ agree agreed)
+  same_words k l r ek el er = er ∙ rw (ek, el) (same_truth _ _ agree agreed)
 
 -- ---- the checked key
 

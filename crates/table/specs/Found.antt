@@ -13,6 +13,7 @@ use Rattle.definition.specs.Calls.{checked_key_test, chain_tests}
 abbrev pub told_of : Settings → View → ℕ → List ℕ → Record
 told_of s f h slots = record { len = length (content_of s f slots); mark = mark_of s (f h); count = count_of s (f h); visits = length slots }
 
+-- the tests from the key's on pass, and this is what is told; or the first that refuses gives this number
 abbrev pub FoundIs : Result Record Refusal → Settings → List ℕ → ℕ → Option (List ℕ) → Type 0
 FoundIs (Ok r) s t h key =
     (first (checked_key_test s key ∷ chain_tests s (view s.size t) h key) ≡ 0)
