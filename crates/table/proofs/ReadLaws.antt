@@ -28,8 +28,8 @@ use Rattle.laws.proofs.Sizes.{Sizes, sizes}
 use Rattle.laws.proofs.FixedParts.{size_fits, size_least, unchecked, look_found, fixed_part}
 use Rattle.laws.proofs.Passed.{slot_passed, walk_fixed}
 use Rattle.walks.specs.declared.Extent.{Extent}
+use Rattle.walks.specs.Met.{ChainTested}
 use Rattle.contents.specs.Pieces.{Copyable, content_at}
-use Rattle.checks.specs.Stages.{RecordIs}
 use Rattle.checks.proofs.RoomLaws.{filled_is}
 use Rattle.reader.specs.declared.table.Table.{Table}
 use Rattle.laws.proofs.Views.{within, length_view}
@@ -57,10 +57,18 @@ module _ (s : Settings) (f : View) (F h : ℕ) (z : Sizes s) (w : length (f h) �
           rw (ap (λ (x : Walk). x.slots) (walk_fixed s f F h m))
           (rw (cond_no s.multipart (drop (head_overhead s) (f h) ++ rest_body f []) (sized_body (f h)) m) (omega (arith, l, size_least s (f h) m e)))
 
+module _ (s : Settings) (t : List ℕ) (h : ℕ) (key : Option (List ℕ)) where
+  pub key_refused : checked_key_test s key ≡ 4 → FoundIs (Err Refusal.Key) s t h key
+  key_refused e = first_refuses 4 _ _ e (omega arith)
+
+  pub chain_refused : checked_key_test s key ≡ 0 → (r : Refusal) → ChainTested (Err r) s (view s.size t) h key → FoundIs (Err r) s t h key
+  chain_refused k r e = first_skip (checked_key_test s key) _ k ∙ e
+
 -- a chain whose tests passed, in an opened table
-module _ (table : Table) (h : ℕ) (key : Option (List ℕ)) (x : Extent) (e : RecordIs (Ok x) table.layout.settings table.bytes.now h key) where
+module _ (table : Table) (h : ℕ) (key : Option (List ℕ)) (x : Extent)
+    (e : ChainTested (Ok x) table.layout.settings (view table.layout.settings.size table.bytes.now) h key) where
   chain : first (chain_tests table.layout.settings (view table.layout.settings.size table.bytes.now) h none) ≡ 0
-  chain = unchecked table.layout.settings _ h key (first_pass (checked_key_test table.layout.settings key) _ e.0).1
+  chain = unchecked table.layout.settings _ h key e.0
 
   pub head_filled : h < table.header.filled
   head_filled = omega (arith, filled_is table, (slot_passed (view table.layout.settings.size table.bytes.now) h (first_pass _ _ chain).0).1)
@@ -73,11 +81,11 @@ module _ (table : Table) (h : ℕ) (key : Option (List ℕ)) (x : Extent) (e : R
       omega (arith, e.2, prefix_within table.layout.settings f (filled f) h (sizes table.layout.settings table.layout.good) whole (first_pass _ _ c.1).0)
 
   -- what is told of it
-  pub told : (n : ℕ) → n ≡ prefix_len table.layout.settings → (mark : Bool) → mark ≡ mark_of table.layout.settings (view table.layout.settings.size table.bytes.now h)
+  pub told : checked_key_test table.layout.settings key ≡ 0 → (n : ℕ) → n ≡ prefix_len table.layout.settings → (mark : Bool) → mark ≡ mark_of table.layout.settings (view table.layout.settings.size table.bytes.now h)
       → (count : ℕ) → count ≡ count_of table.layout.settings (view table.layout.settings.size table.bytes.now h)
       → FoundIs (Ok (record { len = x.bytes - n; mark = mark; count = count; visits = x.parts })) table.layout.settings table.bytes.now h key
   unfolding content_of
-  told n p mark q count r = (e.0, let l : x.bytes - n ≡ length (content_at table.layout.settings table.bytes.now h) = omega (arith, e.2, length-drop {A = ℕ}) in cc)
+  told k n p mark q count r = (first_skip (checked_key_test table.layout.settings key) _ k ∙ e.0, let l : x.bytes - n ≡ length (content_at table.layout.settings table.bytes.now h) = omega (arith, e.2, length-drop {A = ℕ}) in cc)
 
 -- ---- the copying read
 
