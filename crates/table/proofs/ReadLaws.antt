@@ -3,7 +3,7 @@ use mathlib.Core.Path.{◌≡◌, refl, ap, ap₂, ◌∙◌}
 use mathlib.Core.Bool.{Bool, true, false, cond}
 use mathlib.Core.List.{List, [], ◌∷◌, ◌++◌}
 use mathlib.Core.Option.{Option, none}
-use Prim.Native.Nat.{ℕ, zero, suc, ◌+◌, ◌-◌, ◌*◌, ◌≤◌, ◌<◌}
+use Prim.Native.Nat.{ℕ, zero, suc, ◌+◌, ◌-◌, ◌≤◌, ◌<◌}
 use native.Mathlib.Omega.{arith}
 use lib.Dec.{eqb}
 use lib.ListN.{length, take, drop, length-drop, length-append}
@@ -179,18 +179,19 @@ module _ (s : Settings) (t : List ℕ) (h : ℕ) (key : Option (List ℕ)) where
   empty_start r e = cond_no (eqb (first (fixed_tests s key h t)) 0) _ _ (ne_eqb (first (fixed_tests s key h t)) 0 (omega (arith, fixed_fails r e)))
 
   -- found: it lies within the table, after the size word and the prefix
-  pub fixed_inside : (x : Record) → found_of (Ok x) ≡ find_fixed s key h t → h * s.size + 2 + prefix_len s + x.len ≤ length t
+  pub fixed_inside : (x : Record) → found_of (Ok x) ≡ find_fixed s key h t → content_start s h + x.len ≤ length t
+  unfolding content_start
   fixed_inside x e = (fixed_part s t h key x.len x.mark x.count x.visits e).inside
 
-  pub part_start_lem : (x : Record) → found_of (Ok x) ≡ find_fixed s key h t → part_start s key h t ≡ h * s.size + 2 + prefix_len s
-  unfolding find_fixed look_fixed part_start content_start
+  pub part_start_lem : (x : Record) → found_of (Ok x) ≡ find_fixed s key h t → part_start s key h t ≡ content_start s h
+  unfolding find_fixed look_fixed part_start
   part_start_lem x e =
       let q = look_found (first (fixed_tests s key h t)) _ _ _ _ x.len x.mark x.count x.visits _ e in
-      ap (λ (m : ℕ). cond (eqb m 0) (h * s.size + 2 + prefix_len s) 0) q.0
+      ap (λ (m : ℕ). cond (eqb m 0) (content_start s h) 0) q.0
 
   -- the part handed back, from its start to its end
-  pub part_handed : (x : Record) → found_of (Ok x) ≡ find_fixed s key h t → (k : ℕ) → k ≡ prefix_len s
-      → take (h * s.size + 2 + k + x.len - (h * s.size + 2 + k)) (drop (h * s.size + 2 + k) t) ≡ read_fixed s key h t
+  pub part_handed : (x : Record) → found_of (Ok x) ≡ find_fixed s key h t → (k : ℕ) → k ≡ content_start s h → take (k + x.len - k) (drop k t) ≡ read_fixed s key h t
+  unfolding content_start
   part_handed x e k p =
-      let n : h * s.size + 2 + k + x.len - (h * s.size + 2 + k) ≡ x.len = omega arith in
-      rw n (ap (λ (j : ℕ). take x.len (drop (h * s.size + 2 + j) t)) p ∙ (fixed_part s t h key x.len x.mark x.count x.visits e).is)
+      let n : k + x.len - k ≡ x.len = omega arith in
+      rw n (ap (λ (j : ℕ). take x.len (drop j t)) p ∙ (fixed_part s t h key x.len x.mark x.count x.visits e).is)

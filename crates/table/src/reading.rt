@@ -8,7 +8,7 @@ ghost use Rattle.table.specs.Found.{FoundIs};
 
 use checks::checked_key_bad;
 use contents::copy_content;
-use definition::{Record, Refusal, SIZE_SIZE, Settings};
+use definition::{Record, Refusal, Settings};
 use reader::{Table, read_compressed, read_count};
 use walks::chain::check_chain;
 
@@ -79,7 +79,7 @@ pub fn read_fixed<'a, 'b>(
     match find_fixed(table, s, slot, key) {
         Err(_) => &table[..0],
         Ok(record) => {
-            let start = (slot as usize) * s.size + SIZE_SIZE + s.prefix_len();
+            let start = s.content_start(slot);
             &table[start..start + record.len as usize]
         }
     }
