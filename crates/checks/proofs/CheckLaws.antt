@@ -1,20 +1,15 @@
 -- What the checks share: a refusal that is passed on, and the key of a read.
 use mathlib.Core.Path.{◌≡◌, refl, ap, ◌∙◌}
 use mathlib.Core.List.{List, ◌++◌}
-use mathlib.Core.Option.{Option, none}
+use mathlib.Core.Option.{none}
 use Prim.Native.Nat.{ℕ}
-use native.Mathlib.Omega.{arith}
 use Rattle.std.specs.Prelude.{Err, Result, IsErrAnd}
 use Rattle.std.proofs.lemmas.Result.{err_from_is_err_and}
 use Rattle.definition.specs.declared.Settings.{Settings}
 use Rattle.definition.specs.declared.Refusal.{Refusal}
 use Rattle.definition.specs.Tests.{number_of, first}
-use Rattle.definition.specs.Slots.{view}
 use Rattle.definition.specs.Calls.{checked_key_test}
-use Rattle.laws.proofs.Tests.{number_some, first_skip, first_refuses, first_refuse_all}
-use Rattle.walks.specs.declared.Extent.{Extent}
-use Rattle.walks.specs.Met.{ChainTested}
-use Rattle.checks.specs.Stages.{RecordIs}
+use Rattle.laws.proofs.Tests.{number_some, first_refuse_all}
 
 -- what `?` hands back is the refusal that it met
 pub passed_on : {T : Type 0} (r : Result T Refusal) (e : Refusal) → IsErrAnd r (λ x. x ≡ e) → r ≡ Err e
@@ -28,10 +23,3 @@ first_refusal r ns ms e = first_refuse_all (number_of r) ns ms e (number_some r)
 pub key_unasked : (s : Settings) → checked_key_test s none ≡ 0
 unfolding checked_key_test
 key_unasked s = refl
-
-module _ (s : Settings) (t : List ℕ) (h : ℕ) (key : Option (List ℕ)) where
-  pub key_refused : checked_key_test s key ≡ 4 → RecordIs (Err Refusal.Key) s t h key
-  key_refused e = first_refuses 4 _ _ e (omega arith)
-
-  pub chain_decides : checked_key_test s key ≡ 0 → (r : Result Extent Refusal) → ChainTested r s (view s.size t) h key → RecordIs r s t h key
-  chain_decides e r c = rw (first_skip (checked_key_test s key) _ e) c

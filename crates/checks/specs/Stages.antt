@@ -1,25 +1,14 @@
 -- What each stage of checks says of the definition's tests: they pass, with the values found, or the first that refuses gives this number.
-use Rattle.std.specs.Prelude.{◌≡◌, false, List, ◌∷◌, ◌++◌, ℕ, eqb, length, Result, Ok, Err}
-use Rattle.std.proofs.Math.Option.{Option}
+use Rattle.std.specs.Prelude.{◌≡◌, false, List, ◌++◌, ℕ, eqb, length, Result, Ok, Err}
 use Rattle.definition.specs.declared.Settings.{Settings}
 use Rattle.definition.specs.declared.Refusal.{Refusal}
 use Rattle.definition.specs.Tests.{number_of, first}
 use Rattle.definition.specs.Slots.{view, filled}
-use Rattle.definition.specs.Chains.{body_of, walk}
+use Rattle.definition.specs.Chains.{walk}
 use Rattle.definition.specs.Parts.{prefix, pieces}
-use Rattle.definition.specs.Calls.{value_tests, checked_key_test, chain_tests, supply_of, room_tests, Insert, Replace, Remove, decision}
+use Rattle.definition.specs.Calls.{value_tests, supply_of, room_tests, Insert, Replace, Remove, decision}
 use Rattle.slots.specs.declared.layout.Layout.{Layout}
-use Rattle.walks.specs.declared.Extent.{Extent}
-use Rattle.walks.specs.Met.{WalkedIs}
 use Rattle.checks.specs.declared.writing.Fitted.{Fitted}
-
--- a read's tests after the table's and before its output, and the chain's parts and bytes
-abbrev pub RecordIs : Result Extent Refusal → Settings → List ℕ → ℕ → Option (List ℕ) → Type 0
-RecordIs r s t h key =
-    WalkedIs r (first (checked_key_test s key ∷ chain_tests s (view s.size t) h key))
-    (length (walk s (view s.size t) (filled (view s.size t)) h).slots) (length (body_of s (view s.size t) (walk s (view s.size t) (filled (view s.size t)) h).slots))
-
--- ---- insert, replace and remove
 
 -- 4 and 6, and the parts needed
 abbrev pub ValuedIs : Result ℕ Refusal → Settings → List ℕ → List ℕ → Type 0

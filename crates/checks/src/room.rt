@@ -10,7 +10,7 @@ use walks::free_list::check_free_refs;
 fn room_bad(members: u64, unused: u64, need: u64) -> bool
     ensures { result ≡ ltb (members + unused) need }
 {
-    need > members && need - members > unused
+    need.saturating_sub(members) > unused
 }
 
 // Tests 11 and 12, for so many new slots.

@@ -2,9 +2,10 @@
 // holds, and what a read tells. What the calls mean is defined over these types in specs/.
 #![tactic(auto)]
 
-ghost use Rattle.std.specs.Prelude.{◌≡◌};
+ghost use Rattle.std.specs.Prelude.{◌≡◌, ◌<◌, ◌^◌};
 ghost use Rattle.definition.specs.Tests.{number_of};
 ghost use Rattle.definition.specs.Settings.{bad_settings, count_len, key_len, prefix_len, head_overhead, start_overhead};
+ghost use Rattle.definition.specs.Calls.{content_start};
 
 // The layout's lengths in bytes, once for all the code: a size word or mark, a slot number or link, a head's content length, a
 // count, a partial key, a whole key, and how much of the whole key the partial one leaves out. specs/Settings.antt has the same.
@@ -100,6 +101,15 @@ impl Settings {
         } else {
             SIZE_SIZE
         }
+    }
+
+    // Where the content of a plain slot starts in its table: after the size word and the prefix.
+    #[tactic(auto, unfolding(crate::specs::Calls::content_start))]
+    pub fn content_start(self, slot: u64) -> usize
+        requires { content_start self slot < 2 ^ 64 }
+        ensures { result ≡ content_start self slot }
+    {
+        (slot as usize) * self.size + SIZE_SIZE + self.prefix_len()
     }
 }
 

@@ -14,7 +14,7 @@ pub use answers::{
     PyltarkaChanged, PyltarkaCounted, PyltarkaInserted, PyltarkaPart, PyltarkaRecord,
     PyltarkaSettings,
 };
-use definition::{SIZE_SIZE, Settings};
+use definition::Settings;
 
 // Stores a record under a key with its content and compressed mark; answers the slot of its head.
 pub fn pyltarka_insert(
@@ -94,17 +94,14 @@ pub fn pyltarka_read_fixed(
 {
     let own = Settings::from(s);
     match table::find_fixed(table, own, slot, key_if(checked, key)) {
-        Ok(record) => {
-            let start = (slot as usize) * own.size + SIZE_SIZE + own.prefix_len();
-            PyltarkaPart {
-                offset: start as u64,
-                length: record.len,
-                visits: record.visits,
-                number: 0,
-                count: record.count,
-                mark: record.mark,
-            }
-        }
+        Ok(record) => PyltarkaPart {
+            offset: own.content_start(slot) as u64,
+            length: record.len,
+            visits: record.visits,
+            number: 0,
+            count: record.count,
+            mark: record.mark,
+        },
         Err(refusal) => PyltarkaPart {
             number: refusal.number(),
             ..PyltarkaPart::default()

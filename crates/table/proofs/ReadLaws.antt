@@ -3,7 +3,7 @@ use mathlib.Core.Path.{◌≡◌, refl, ap, ap₂, ◌∙◌}
 use mathlib.Core.Bool.{Bool, true, false, cond}
 use mathlib.Core.List.{List, [], ◌∷◌, ◌++◌}
 use mathlib.Core.Option.{Option, none}
-use Prim.Native.Nat.{ℕ, zero, suc, ◌+◌, ◌-◌, ◌*◌, ◌≤◌, ◌<◌}
+use Prim.Native.Nat.{ℕ, zero, suc, ◌+◌, ◌-◌, ◌≤◌, ◌<◌}
 use native.Mathlib.Omega.{arith}
 use lib.Dec.{eqb}
 use lib.ListN.{length, take, drop, length-drop, length-append}
@@ -28,8 +28,8 @@ use Rattle.laws.proofs.Sizes.{Sizes, sizes}
 use Rattle.laws.proofs.FixedParts.{size_fits, size_least, unchecked, look_found, fixed_part}
 use Rattle.laws.proofs.Passed.{slot_passed, walk_fixed}
 use Rattle.walks.specs.declared.Extent.{Extent}
+use Rattle.walks.specs.Met.{ChainTested}
 use Rattle.contents.specs.Pieces.{Copyable, content_at}
-use Rattle.checks.specs.Stages.{RecordIs}
 use Rattle.checks.proofs.RoomLaws.{filled_is}
 use Rattle.reader.specs.declared.table.Table.{Table}
 use Rattle.laws.proofs.Views.{within, length_view}
@@ -57,10 +57,18 @@ module _ (s : Settings) (f : View) (F h : ℕ) (z : Sizes s) (w : length (f h) �
           rw (ap (λ (x : Walk). x.slots) (walk_fixed s f F h m))
           (rw (cond_no s.multipart (drop (head_overhead s) (f h) ++ rest_body f []) (sized_body (f h)) m) (omega (arith, l, size_least s (f h) m e)))
 
+module _ (s : Settings) (t : List ℕ) (h : ℕ) (key : Option (List ℕ)) where
+  pub key_refused : checked_key_test s key ≡ 4 → FoundIs (Err Refusal.Key) s t h key
+  key_refused e = first_refuses 4 _ _ e (omega arith)
+
+  pub chain_refused : checked_key_test s key ≡ 0 → (r : Refusal) → ChainTested (Err r) s (view s.size t) h key → FoundIs (Err r) s t h key
+  chain_refused k r e = first_skip (checked_key_test s key) _ k ∙ e
+
 -- a chain whose tests passed, in an opened table
-module _ (table : Table) (h : ℕ) (key : Option (List ℕ)) (x : Extent) (e : RecordIs (Ok x) table.layout.settings table.bytes.now h key) where
+module _ (table : Table) (h : ℕ) (key : Option (List ℕ)) (x : Extent)
+    (e : ChainTested (Ok x) table.layout.settings (view table.layout.settings.size table.bytes.now) h key) where
   chain : first (chain_tests table.layout.settings (view table.layout.settings.size table.bytes.now) h none) ≡ 0
-  chain = unchecked table.layout.settings _ h key (first_pass (checked_key_test table.layout.settings key) _ e.0).1
+  chain = unchecked table.layout.settings _ h key e.0
 
   pub head_filled : h < table.header.filled
   head_filled = omega (arith, filled_is table, (slot_passed (view table.layout.settings.size table.bytes.now) h (first_pass _ _ chain).0).1)
@@ -73,11 +81,11 @@ module _ (table : Table) (h : ℕ) (key : Option (List ℕ)) (x : Extent) (e : R
       omega (arith, e.2, prefix_within table.layout.settings f (filled f) h (sizes table.layout.settings table.layout.good) whole (first_pass _ _ c.1).0)
 
   -- what is told of it
-  pub told : (n : ℕ) → n ≡ prefix_len table.layout.settings → (mark : Bool) → mark ≡ mark_of table.layout.settings (view table.layout.settings.size table.bytes.now h)
+  pub told : checked_key_test table.layout.settings key ≡ 0 → (n : ℕ) → n ≡ prefix_len table.layout.settings → (mark : Bool) → mark ≡ mark_of table.layout.settings (view table.layout.settings.size table.bytes.now h)
       → (count : ℕ) → count ≡ count_of table.layout.settings (view table.layout.settings.size table.bytes.now h)
       → FoundIs (Ok (record { len = x.bytes - n; mark = mark; count = count; visits = x.parts })) table.layout.settings table.bytes.now h key
   unfolding content_of
-  told n p mark q count r = (e.0, let l : x.bytes - n ≡ length (content_at table.layout.settings table.bytes.now h) = omega (arith, e.2, length-drop {A = ℕ}) in cc)
+  told k n p mark q count r = (first_skip (checked_key_test table.layout.settings key) _ k ∙ e.0, let l : x.bytes - n ≡ length (content_at table.layout.settings table.bytes.now h) = omega (arith, e.2, length-drop {A = ℕ}) in cc)
 
 -- ---- the copying read
 
@@ -171,18 +179,19 @@ module _ (s : Settings) (t : List ℕ) (h : ℕ) (key : Option (List ℕ)) where
   empty_start r e = cond_no (eqb (first (fixed_tests s key h t)) 0) _ _ (ne_eqb (first (fixed_tests s key h t)) 0 (omega (arith, fixed_fails r e)))
 
   -- found: it lies within the table, after the size word and the prefix
-  pub fixed_inside : (x : Record) → found_of (Ok x) ≡ find_fixed s key h t → h * s.size + 2 + prefix_len s + x.len ≤ length t
+  pub fixed_inside : (x : Record) → found_of (Ok x) ≡ find_fixed s key h t → content_start s h + x.len ≤ length t
+  unfolding content_start
   fixed_inside x e = (fixed_part s t h key x.len x.mark x.count x.visits e).inside
 
-  pub part_start_lem : (x : Record) → found_of (Ok x) ≡ find_fixed s key h t → part_start s key h t ≡ h * s.size + 2 + prefix_len s
-  unfolding find_fixed look_fixed part_start content_start
+  pub part_start_lem : (x : Record) → found_of (Ok x) ≡ find_fixed s key h t → part_start s key h t ≡ content_start s h
+  unfolding find_fixed look_fixed part_start
   part_start_lem x e =
       let q = look_found (first (fixed_tests s key h t)) _ _ _ _ x.len x.mark x.count x.visits _ e in
-      ap (λ (m : ℕ). cond (eqb m 0) (h * s.size + 2 + prefix_len s) 0) q.0
+      ap (λ (m : ℕ). cond (eqb m 0) (content_start s h) 0) q.0
 
   -- the part handed back, from its start to its end
-  pub part_handed : (x : Record) → found_of (Ok x) ≡ find_fixed s key h t → (k : ℕ) → k ≡ prefix_len s
-      → take (h * s.size + 2 + k + x.len - (h * s.size + 2 + k)) (drop (h * s.size + 2 + k) t) ≡ read_fixed s key h t
+  pub part_handed : (x : Record) → found_of (Ok x) ≡ find_fixed s key h t → (k : ℕ) → k ≡ content_start s h → take (k + x.len - k) (drop k t) ≡ read_fixed s key h t
+  unfolding content_start
   part_handed x e k p =
-      let n : h * s.size + 2 + k + x.len - (h * s.size + 2 + k) ≡ x.len = omega arith in
-      rw n (ap (λ (j : ℕ). take x.len (drop (h * s.size + 2 + j) t)) p ∙ (fixed_part s t h key x.len x.mark x.count x.visits e).is)
+      let n : k + x.len - k ≡ x.len = omega arith in
+      rw n (ap (λ (j : ℕ). take x.len (drop j t)) p ∙ (fixed_part s t h key x.len x.mark x.count x.visits e).is)

@@ -6,18 +6,22 @@ ghost use Rattle.slots.specs.Keys.{lent_key};
 ghost use Rattle.table.specs.Places.{LiesAt};
 ghost use Rattle.table.specs.Found.{FoundIs};
 
-use checks::check_record;
+use checks::checked_key_bad;
 use contents::copy_content;
-use definition::{Record, Refusal, SIZE_SIZE, Settings};
+use definition::{Record, Refusal, Settings};
 use reader::{Table, read_compressed, read_count};
+use walks::chain::check_chain;
 
-// The tests of a read before its output, and what is told of the record.
+// The tests of a read after the table's and before its output, and what is told of the record.
 #[inline(always)]
 fn find_record(table: &Table, slot: u64, key: Option<&[u8]>) -> Result<Record, Refusal>
     ensures { FoundIs result table.now.layout.settings table.now.bytes.now slot (lent_key key.entry) }
 {
-    let chain = check_record(table, slot, key)?;
     let s = table.layout.settings;
+    if checked_key_bad(s, key) {
+        return Err(Refusal::Key);
+    }
+    let chain = check_chain(table, slot, key)?;
     let head = table.slot(slot).bytes;
     Ok(Record {
         len: (chain.bytes - s.prefix_len()) as u64,
@@ -76,7 +80,7 @@ pub fn read_fixed<'a, 'b>(
     match find_fixed(table, s, slot, key) {
         Err(_) => &table[..0],
         Ok(record) => {
-            let start = (slot as usize) * s.size + SIZE_SIZE + s.prefix_len();
+            let start = s.content_start(slot);
             &table[start..start + record.len as usize]
         }
     }

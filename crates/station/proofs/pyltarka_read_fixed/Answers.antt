@@ -9,20 +9,12 @@ use Rattle.station.specs.Forms.{part_in}
 use Rattle.station.proofs.CallLaws.{part_at, part_told}
 use Rattle.station.proofs.pyltarka_read_fixed.Goals as goal
 
-pub overflow_mul-start : goal.overflow_mul-start
-overflow_mul-start c =
-    omega (arith, (part_at _ _ _ _ c.in-Ok.is c.find_fixed.ensures).inside)
-
-pub overflow_add-start : goal.overflow_add-start
-overflow_add-start c =
-    omega (arith, (part_at _ _ _ _ c.in-Ok.is c.find_fixed.ensures).inside)
-
-pub overflow_add-start-in-Ok : goal.overflow_add-start-in-Ok
-overflow_add-start-in-Ok c =
-    omega (arith, (part_at _ _ _ _ c.in-Ok.is c.find_fixed.ensures).inside, c.prefix_len.ensures)
+pub content_start-requires : goal.content_start-requires
+content_start-requires c =
+    omega (arith, part_at _ _ _ _ c.in-Ok.is c.find_fixed.ensures)
 
 pub returns-in-Ok : goal.returns-in-Ok
 returns-in-Ok c =
     let a = c.args in
-    part_told _ _ _ _ c.in-Ok.is c.find_fixed.ensures _ c.prefix_len.ensures
+    part_told _ _ _ _ c.in-Ok.is c.find_fixed.ensures _ c.content_start.ensures
     ∙ ap₂ (λ (s : Settings) (key : Option (List ℕ)). part_in s a.slot (find_fixed s key a.slot a.table.now)) c.from-own.ensures c.key_if.ensures

@@ -11,4 +11,4 @@ returns-in-Err c =
 pub returns-in-Ok : goal.returns-in-Ok
 returns-in-Ok c =
     let e = c.in-Ok.ensures in
-    (part_handed c.args.s _ _ _ c.in-Ok.record e _ c.prefix_len.ensures, (refl, omega (arith, part_start_lem c.args.s _ _ _ c.in-Ok.record e, c.prefix_len.ensures)))
+    (part_handed c.args.s _ _ _ c.in-Ok.record e _ c.content_start-start.ensures, (refl, omega (arith, part_start_lem c.args.s _ _ _ c.in-Ok.record e, c.content_start-start.ensures)))
