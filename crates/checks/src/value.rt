@@ -5,7 +5,7 @@ ghost use Rattle.definition.specs.Parts.{pieces};
 ghost use Rattle.checks.specs.Stages.{ValuedIs};
 
 use crate::key_bad;
-use definition::{INDEX_SIZE, Refusal, SIZE_SIZE};
+use definition::{INDEX_SIZE, LINK_OVERHEAD, Refusal, SIZE_SIZE};
 use slots::layout::Layout;
 
 // Test 6: N bytes of prefix and content. Fixed: above E - 2; multipart: at most E - 2.
@@ -30,7 +30,7 @@ fn parts_needed(layout: Layout, n: usize) -> u64
         return 1;
     }
     let rest = n - (s.size - s.head_overhead());
-    let full = s.size - (SIZE_SIZE + INDEX_SIZE);
+    let full = s.size - LINK_OVERHEAD;
     // A last part holds as many bytes more than a continuation as a link has: a rest one byte longer needs one part more.
     ((rest - (INDEX_SIZE + 1)) / full + 2) as u64
 }

@@ -6,7 +6,7 @@ ghost use Rattle.definition.specs.Numbers.{put};
 ghost use Rattle.definition.specs.Chains.{sized_body};
 ghost use Rattle.contents.specs.Pieces.{SizeFits, StartFits, PartFits, start_piece, start_next, part_piece, part_next, content_at, Copying, Copyable};
 
-use definition::{INDEX_SIZE, SIZE_SIZE};
+use definition::{LINK_OVERHEAD, SIZE_SIZE};
 use reader::{Slot, Table, is_continuation, part_size, read_head_next, read_next};
 
 // A slot's piece of prefix and content, and the link to the next part, 0 if there is none, as slots store it and the definition has it.
@@ -54,7 +54,7 @@ fn part_piece<'a>(slot: &Slot<'a>) -> Piece<'a>
         return sized_piece(slot);
     }
     Piece {
-        bytes: &slot.bytes[SIZE_SIZE + INDEX_SIZE..],
+        bytes: &slot.bytes[LINK_OVERHEAD..],
         next: read_next(slot.bytes),
     }
 }

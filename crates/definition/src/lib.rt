@@ -23,6 +23,9 @@ pub const KEY_SIZE: usize = 32;
 
 pub const KEY_SKIP: usize = 6;
 
+// A continuation's bytes before its content: mark and link.
+pub const LINK_OVERHEAD: usize = SIZE_SIZE + INDEX_SIZE;
+
 // The longest prefix: a count and a partial key.
 pub const PREFIX_SIZE: usize = 30;
 

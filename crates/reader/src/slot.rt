@@ -12,7 +12,7 @@ use crate::bytes::{
     is_continuation, is_free, is_head, part_size, read_count, read_head_next, read_next,
     starts_chain,
 };
-use definition::{INDEX_SIZE, Part, PartKind, Refusal, SIZE_SIZE};
+use definition::{LINK_OVERHEAD, Part, PartKind, Refusal, SIZE_SIZE};
 use slots::keys::key_differs;
 use slots::layout::Layout;
 
@@ -104,7 +104,7 @@ impl<'a> Slot<'a> {
         if is_continuation(self.bytes) {
             return Ok(Part {
                 kind: PartKind::Continuation(read_next(self.bytes)),
-                bytes: size - (SIZE_SIZE + INDEX_SIZE),
+                bytes: size - LINK_OVERHEAD,
             });
         }
         let bytes = part_size(self.bytes);

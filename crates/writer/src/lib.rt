@@ -14,7 +14,7 @@ ghost use Rattle.definition.specs.Slots.{head_mark, compressed_mark};
 ghost use Rattle.writer.specs.Bodies.{body_of};
 
 pub use body::Body;
-use definition::{COMPRESSED_MASK, INDEX_SIZE, SIZE_SIZE, Settings};
+use definition::{COMPRESSED_MASK, INDEX_SIZE, LINK_OVERHEAD, SIZE_SIZE, Settings};
 use numbers::{Number, write_mark};
 use slots::layout::Layout;
 
@@ -36,7 +36,7 @@ pub fn write_continuation(slot: &mut [u8], next: u64, body: &Body, pos: usize)
 {
     write_mark(slot, b"\xfe\xff");
     next.write(slot, SIZE_SIZE);
-    body.copy_to(pos, &mut slot[SIZE_SIZE + INDEX_SIZE..]);
+    body.copy_to(pos, &mut slot[LINK_OVERHEAD..]);
 }
 
 // A head's mark: fd ff, or fd 7f if compressed.

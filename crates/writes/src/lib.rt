@@ -17,7 +17,7 @@ ghost use Rattle.writer.specs.Bodies.{body_of};
 ghost use Rattle.writes.specs.Steps.{next_part, taken_from, freed_onto, linked_part, place_after, clear_stores};
 ghost use Rattle.writes.specs.Ready.{Fit, Ready, Freeing};
 
-use definition::{Header, INDEX_SIZE, SIZE_SIZE};
+use definition::{Header, LINK_OVERHEAD, SIZE_SIZE};
 use reader::{Slot, is_continuation, is_head, read_head_next, read_next};
 use slots::header::write_header;
 use slots::layout::Layout;
@@ -141,7 +141,7 @@ fn store_linked(
         return s.size - s.head_overhead();
     }
     store_continuation(table, layout, i, next, body, pos);
-    pos + (s.size - (SIZE_SIZE + INDEX_SIZE))
+    pos + (s.size - LINK_OVERHEAD)
 }
 
 // Lays a body into the slots of the old chain at `at` (none where it is 0), then into free ones, then into unused ones, frees what is
