@@ -4,8 +4,8 @@
 ghost use Rattle.std.specs.Prelude.{◌≡◌, ◌+◌, ◌*◌, ◌≤◌, length};
 ghost use Rattle.definition.specs.Numbers.{bytes, put};
 ghost use Rattle.definition.specs.Settings.{start_overhead};
-ghost use Rattle.definition.specs.Slots.{view};
 ghost use Rattle.definition.specs.Calls.{new_count};
+ghost use Rattle.reader.specs.Opened.{slots_of};
 ghost use Rattle.counts.specs.Counts.{CountIs, stepped_to};
 
 use definition::{LOCKED_REF, Refusal};
@@ -16,7 +16,7 @@ use slots::layout::Layout;
 // The tests of a count change in slot `at`: the slot and the head, whose count it answers.
 #[tactic(auto, unfolding(definition::specs::Calls::checked_key_test))]
 pub fn check_count(table: &Table, at: u64) -> Result<u32, Refusal>
-    ensures { CountIs result table.now.layout.settings (view table.now.layout.settings.size table.now.bytes.now) at }
+    ensures { CountIs result table.now.layout.settings (slots_of table.now) at }
 {
     let slot = table.record_slot(at)?;
     slot.parse_head(None, Refusal::Absent)?;

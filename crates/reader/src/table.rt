@@ -18,7 +18,7 @@ pub struct Table<'a> {
 
 impl<'a> Table<'a> {
     ghost use Rattle.definition.specs.Calls.{capacity};
-    ghost use Rattle.reader.specs.Opened.{OpenedIs, SlotIs};
+    ghost use Rattle.reader.specs.Opened.{slots_of, OpenedIs, SlotIs};
 
     // Tests 1, 2 and 3: settings, capacity, header.
     #[tactic(auto, unfolding(definition::specs::Calls::settings_test, definition::specs::Calls::buffer_test, definition::specs::Calls::header_test, definition::specs::Calls::capacity, definition::specs::Tests::first, definition::specs::Tests::refuse))]
@@ -52,7 +52,7 @@ impl<'a> Table<'a> {
     // Slot i, below FILLED.
     pub fn slot(&self, i: u64) -> Slot<'a>
         requires { i < self.now.header.filled }
-        ensures { (result.bytes.now ≡ view self.now.layout.settings.size self.now.bytes.now i) × (result.layout ≡ self.now.layout) }
+        ensures { (result.bytes.now ≡ slots_of self.now i) × (result.layout ≡ self.now.layout) }
     {
         Slot::of(self.bytes, self.layout, i)
     }
