@@ -192,7 +192,5 @@ module _ (s : Settings) (buf u : List ℕ) where
     unfolding prefix new_count
     no_key k e = e ∙ eu ∙ ap (put buf 0) (sym (append-nil (new_count s)) ∙ ap (λ (v : List ℕ). new_count s ++ v) (sym (cond_no s.keyed (partial_key key) [] k)))
 
-pub prefix_laid : (s : Settings) (buf key d : List ℕ) (n : ℕ) → key_test s key ≡ 0 → n ≡ prefix_len s → d ≡ put buf 0 (prefix s key) → (take n d ≡ prefix s key) × (length (take n d) ≡ prefix_len s)
-prefix_laid s buf key d n t en e =
-    let front : take n d ≡ prefix s key = rw e (laid buf (prefix s key) n (en ∙ sym (length_prefix s key t))) in
-    (front, ap length front ∙ length_prefix s key t)
+pub prefix_laid : (s : Settings) (buf key d : List ℕ) (n : ℕ) → key_test s key ≡ 0 → n ≡ prefix_len s → d ≡ put buf 0 (prefix s key) → (take n d ≡ prefix s key) × (n ≡ prefix_len s)
+prefix_laid s buf key d n t en e = (rw e (laid buf (prefix s key) n (en ∙ sym (length_prefix s key t))), en)

@@ -36,11 +36,11 @@ pub fn key_differs(slot: &[u8], layout: Layout, key: Option<&[u8]>) -> bool
     }
 }
 
-// Writes the prefix of a new record, a count of 1 and the partial key, at the front of a buffer, and hands back that front.
-#[tactic(auto, using(crate::proofs::KeyLaws::key_whole, laws::proofs::Overheads::count_most, laws::proofs::Sizes::prefix_most))]
-pub fn write_prefix<'a>(buf: &'a mut [u8; PREFIX_SIZE], s: Settings, key: &[u8]) -> &'a [u8]
+// Writes the prefix of a new record, a count of 1 and the partial key, at the front of a buffer, and answers its length.
+#[tactic(auto, using(crate::proofs::KeyLaws::key_whole, laws::proofs::Overheads::count_most))]
+pub fn write_prefix(buf: &mut [u8; PREFIX_SIZE], s: Settings, key: &[u8]) -> usize
     requires { key_test s key.now ≡ 0 }
-    ensures { (result.now ≡ prefix s key.now) × (length result.now ≡ prefix_len s) }
+    ensures { (take result buf.new ≡ prefix s key.now) × (result ≡ prefix_len s) }
 {
     if s.counted {
         1u32.write(buf, 0);
@@ -49,5 +49,5 @@ pub fn write_prefix<'a>(buf: &'a mut [u8; PREFIX_SIZE], s: Settings, key: &[u8])
     if s.keyed {
         buf[at..at + PARTIAL_SIZE].copy_from_slice(&key[KEY_SKIP..]);
     }
-    &buf[..s.prefix_len()]
+    s.prefix_len()
 }

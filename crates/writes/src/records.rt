@@ -32,9 +32,10 @@ pub fn write_record(
         × (result ≡ head_d (new_slots old free (filled_of (view layout.settings.size table.old)) (length (pieces layout.settings (prefix layout.settings key.now ++ content.now)))) 0) }
 {
     let h = read_header(table, layout);
-    let mut buf = [0u8; PREFIX_SIZE];
+    let mut prefix = [0u8; PREFIX_SIZE];
+    let n = write_prefix(&mut prefix, layout.settings, key);
     let body = Body {
-        prefix: write_prefix(&mut buf, layout.settings, key),
+        prefix: &prefix[..n],
         content,
     };
     overwrite_chain(table, layout, mark, &body, at, h, same)
