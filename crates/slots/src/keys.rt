@@ -36,7 +36,8 @@ pub fn key_differs(slot: &[u8], layout: Layout, key: Option<&[u8]>) -> bool
     }
 }
 
-// Writes the prefix of a new record, a count of 1 and the partial key, at the front of a buffer, and answers its length.
+// Writes the prefix of a new record, a count of 1 and the partial key, at the front of a buffer, and answers its length: the part itself,
+// handed out, would leave open what the buffer holds afterwards.
 #[tactic(auto, using(crate::proofs::KeyLaws::key_whole, laws::proofs::Overheads::count_most))]
 pub fn write_prefix(buf: &mut [u8; PREFIX_SIZE], s: Settings, key: &[u8]) -> usize
     requires { key_test s key.now ≡ 0 }
