@@ -57,13 +57,6 @@ module _ (s : Settings) (f : View) (F h : ℕ) (z : Sizes s) (w : length (f h) �
           rw (ap (λ (x : Walk). x.slots) (walk_fixed s f F h m))
           (rw (cond_no s.multipart (drop (head_overhead s) (f h) ++ rest_body f []) (sized_body (f h)) m) (omega (arith, l, size_least s (f h) m e)))
 
-module _ (s : Settings) (t : List ℕ) (h : ℕ) (key : Option (List ℕ)) where
-  pub key_refused : checked_key_test s key ≡ 4 → FoundIs (Err Refusal.Key) s t h key
-  key_refused e = first_refuses 4 _ _ e (omega arith)
-
-  pub chain_refused : checked_key_test s key ≡ 0 → (r : Refusal) → ChainTested (Err r) s (view s.size t) h key → FoundIs (Err r) s t h key
-  chain_refused k r e = first_skip (checked_key_test s key) _ k ∙ e
-
 -- a chain whose tests passed, in an opened table
 module _ (table : Table) (h : ℕ) (key : Option (List ℕ)) (x : Extent)
     (e : ChainTested (Ok x) table.layout.settings (view table.layout.settings.size table.bytes.now) h key) where

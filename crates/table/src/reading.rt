@@ -14,6 +14,7 @@ use walks::chain::check_chain;
 
 // The tests of a read after the table's and before its output, and what is told of the record.
 #[inline(always)]
+#[tactic(auto, unfolding(definition::specs::Tests::refuse, definition::specs::Tests::first))]
 fn find_record(table: &Table, slot: u64, key: Option<&[u8]>) -> Result<Record, Refusal>
     ensures { FoundIs result table.now.layout.settings table.now.bytes.now slot (lent_key key.entry) }
 {

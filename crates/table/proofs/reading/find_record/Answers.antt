@@ -1,22 +1,9 @@
 use mathlib.Core.Path.{sym, ap, ◌∙◌}
 use native.Mathlib.Omega.{arith}
 use Rattle.definition.specs.Slots.{mark_of, count_of}
-use Rattle.laws.proofs.Tests.{refuse_yes, refuse_no}
-use Rattle.checks.proofs.CheckLaws.{passed_on}
-use Rattle.table.proofs.ReadLaws.{key_refused, chain_refused, head_filled, prefixed, told}
+use Rattle.laws.proofs.Tests.{refuse_no}
+use Rattle.table.proofs.ReadLaws.{head_filled, prefixed, told}
 use Rattle.table.proofs.reading.find_record.Goals as goal
-
-pub returns-then-checked_key_bad : goal.returns-then-checked_key_bad
-returns-then-checked_key_bad c =
-    key_refused c.args.table.now.layout.settings c.args.table.now.bytes.now _ _ (sym c.checked_key_bad.ensures ∙ refuse_yes 4 _ c.if-checked_key_bad.true)
-
-pub check_chain-requires : goal.check_chain-requires
-check_chain-requires c = sym c.checked_key_bad.ensures ∙ refuse_no 4 _ c.if-checked_key_bad.false
-
-pub returns-in_err-chain : goal.returns-in_err-chain
-returns-in_err-chain c =
-    rw (passed_on _ _ c.from_residual.ensures.1)
-    (chain_refused c.args.table.now.layout.settings c.args.table.now.bytes.now _ _ (sym c.checked_key_bad.ensures ∙ refuse_no 4 _ c.if-checked_key_bad.false) _ c.in_err-chain.ensures)
 
 pub slot-requires : goal.slot-requires
 slot-requires c = head_filled c.args.table.now _ _ _ c.in_ok-chain.ensures
