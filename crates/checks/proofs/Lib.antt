@@ -1,4 +1,4 @@
--- Laws of the checks: one for each way out.
+-- Laws of the checks.
 pub mod CheckLaws
 pub mod ValueLaws
 pub mod RoomLaws

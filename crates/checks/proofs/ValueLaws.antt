@@ -1,25 +1,21 @@
--- The value's tests, and the parts that a body needs: a head, then one part and one more for each further E - 10 bytes (`Parts-more`).
+-- The parts that a body needs: a head, then one part and one more for each further E - 10 bytes (`parts_cut`).
 use mathlib.Core.Path.{◌≡◌, sym, ap, ◌∙◌}
-use mathlib.Core.Bool.{Bool, true, false, cond, ◌&&◌, not}
+use mathlib.Core.Bool.{true, false, ◌&&◌, not}
 use mathlib.Core.List.{List, ◌++◌}
 use Prim.Native.Nat.{ℕ, zero, suc, ◌+◌, ◌-◌, ◌/◌, ◌≤◌, ◌<◌}
 use native.Mathlib.Nat.{div-eq_of_lt, add-div_right}
 use native.Mathlib.Decide.{dec_le}
 use native.Mathlib.Omega.{arith}
-use lib.Dec.{eqb, leb, ltb}
+use lib.Dec.{eqb, leb}
 use lib.ListN.{length, drop, length-drop, length-append}
 use borrow.Author.Tests.{leb-true, leb-false}
 use Rattle.definition.specs.declared.Settings.{Settings}
-use Rattle.definition.specs.declared.Refusal.{Refusal}
-use Rattle.definition.specs.Tests.{refuse, first}
 use Rattle.definition.specs.Settings.{prefix_len, head_overhead}
 use Rattle.definition.specs.Parts.{prefix, cut_rest, cut, pieces}
-use Rattle.definition.specs.Calls.{key_test, value_test, value_tests}
+use Rattle.definition.specs.Calls.{key_test}
 use Rattle.laws.proofs.Conditions.{Which, which, is_yes, is_no, cond_yes, cond_no}
-use Rattle.laws.proofs.Tests.{refuse_yes, refuse_no, first_skip, first_one, first_refuses}
+use Rattle.laws.proofs.Tests.{refuse_no}
 use Rattle.laws.proofs.Sizes.{length_prefix}
-use Rattle.checks.specs.declared.value.Valued.{Valued}
-use Rattle.checks.specs.Stages.{ValuedIs}
 
 -- ---- how many parts
 
@@ -94,28 +90,9 @@ module _ (s : Settings) (body : List ℕ) (n : ℕ) (long : length body ≡ n) w
             omega (arith, parts)
         go (no f) = ap (λ (k : ℕ). k / (s.size - 10) + 2) (nine_less s.size (n - (s.size - o)) h (omega arith)) ∙ sym parts
 
--- ---- tests 4 and 6
+-- ---- the body
 
-module _ (s : Settings) (key content : List ℕ) where
-  pub key_wrong : (s.keyed && not (eqb (length key) 32)) ≡ true → ValuedIs (Valued.Refused Refusal.Key) s key content
-  unfolding key_test
-  key_wrong e = first_refuses 4 _ _ (refuse_yes 4 _ e) (omega arith)
-
-  module _ (k : (s.keyed && not (eqb (length key) 32)) ≡ false) (n : ℕ) (e : n ≡ prefix_len s + length content) (b : Bool) (q : b ≡ cond s.multipart (leb n (s.size - 2)) (ltb (s.size - 2) n)) where
-    value_is : first (value_tests s key content) ≡ refuse 6 b
-    unfolding key_test value_test
-    value_is =
-        first_skip _ _ (refuse_no 4 _ k) ∙ first_one _
-        ∙ ap (refuse 6) (sym (q ∙ ap (λ (j : ℕ). cond s.multipart (leb j (s.size - 2)) (ltb (s.size - 2) j)) e))
-
-    pub value_wrong : b ≡ true → ValuedIs (Valued.Refused Refusal.Value) s key content
-    value_wrong y = value_is ∙ refuse_yes 6 b y
-
-    -- a multipart table's value is longer than a slot
-    pub value_long : b ≡ false → s.multipart ≡ true → s.size - 2 < n
-    value_long y m = leb-false n (s.size - 2) (sym (cond_yes s.multipart _ _ m) ∙ sym q ∙ y)
-
-    pub value_good : b ≡ false → (r : ℕ) → ((body : List ℕ) → length body ≡ n → r ≡ length (pieces s body)) → ValuedIs (Valued.Parts r) s key content
-    unfolding key_test
-    value_good y r f =
-        (value_is ∙ refuse_no 6 b y, f (prefix s key ++ content) (length-append (prefix s key) content ∙ ap (λ (j : ℕ). j + length content) (length_prefix s key (refuse_no 4 _ k)) ∙ sym e))
+-- prefix and content of a key that passed
+pub body_length : (s : Settings) (key content : List ℕ) (k : (s.keyed && not (eqb (length key) 32)) ≡ false) → length (prefix s key ++ content) ≡ prefix_len s + length content
+unfolding key_test
+body_length s key content k = length-append (prefix s key) content ∙ ap (λ (n : ℕ). n + length content) (length_prefix s key (refuse_no 4 _ k))

@@ -1,2 +1,2 @@
--- Where content lies in slots, and what a copy of it starts from.
-pub mod Spans
+-- What slots hold of a content, and what a copy of it starts from.
+pub mod Pieces

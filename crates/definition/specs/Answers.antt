@@ -1,11 +1,8 @@
 -- Answers. Document 01, "The form each place takes": for each case of each answer, 01's number and values.
-use Rattle.std.specs.Prelude.{ℕ, Bool, List}
-use Rattle.definition.specs.declared.Parsed.{Parsed}
-use Rattle.definition.specs.declared.Inserted.{Inserted}
-use Rattle.definition.specs.declared.Written.{Written}
-use Rattle.definition.specs.declared.Changed.{Changed}
-use Rattle.definition.specs.declared.Found.{Found}
-use Rattle.definition.specs.declared.FreeCount.{FreeCount}
+use Rattle.std.specs.Prelude.{ℕ, Bool, List, Option, Some, None, Result, Ok, Err}
+use Rattle.definition.specs.declared.Refusal.{Refusal}
+use Rattle.definition.specs.declared.Part.{Part}
+use Rattle.definition.specs.declared.Record.{Record}
 use Rattle.definition.specs.Tests.{number_of}
 use Rattle.definition.specs.Chains.{Parse, refused, part}
 
@@ -28,27 +25,32 @@ pub data Answer : Type 0 where
   -- free count: the members of the free list
   members : ℕ → Answer
 
-abbrev pub parse_of : Parsed → Parse
-parse_of (Parsed.Part k n) = part k n
-parse_of (Parsed.Refused r) = refused (number_of r)
+abbrev pub parse_of : Result Part Refusal → Parse
+parse_of (Ok p) = part p.kind p.bytes
+parse_of (Err r) = refused (number_of r)
 
-abbrev pub inserted_of : Inserted → Answer
-inserted_of (Inserted.At h) = at h
-inserted_of (Inserted.Refused r) = refusal (number_of r)
+-- insert: the head's slot
+abbrev pub inserted_of : Result ℕ Refusal → Answer
+inserted_of (Ok h) = at h
+inserted_of (Err r) = refusal (number_of r)
 
-abbrev pub written_of : Written → Answer
-written_of Written.Accepted = accepted
-written_of (Written.Refused r) = refusal (number_of r)
+-- replace and remove
+abbrev pub written_of : Result Unit Refusal → Answer
+written_of (Ok u) = accepted
+written_of (Err r) = refusal (number_of r)
 
-abbrev pub changed_of : Changed → Answer
-changed_of (Changed.Count n) = count n
-changed_of Changed.LastReference = last_reference_answer
-changed_of (Changed.Refused r) = refusal (number_of r)
+-- change: the count that was stored, or none where this was the last reference
+abbrev pub changed_of : Result (Option ℕ) Refusal → Answer
+changed_of (Ok (Some n)) = count n
+changed_of (Ok None) = last_reference_answer
+changed_of (Err r) = refusal (number_of r)
 
-abbrev pub found_of : Found → Answer
-found_of (Found.Content r) = found r.len r.mark r.count r.visits
-found_of (Found.Refused r) = refusal (number_of r)
+-- copying read, and the fixed read's companion
+abbrev pub found_of : Result Record Refusal → Answer
+found_of (Ok r) = found r.len r.mark r.count r.visits
+found_of (Err r) = refusal (number_of r)
 
-abbrev pub free_count_of : FreeCount → Answer
-free_count_of (FreeCount.Members n) = members n
-free_count_of (FreeCount.Refused r) = refusal (number_of r)
+-- free count: the members of the free list
+abbrev pub free_count_of : Result ℕ Refusal → Answer
+free_count_of (Ok n) = members n
+free_count_of (Err r) = refusal (number_of r)

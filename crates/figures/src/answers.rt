@@ -1,95 +1,77 @@
-// How the program writes: words, numbers, bytes, and each kind of answer.
-use definition::{Changed, Found, FreeCount, Inserted, Record, Refusal, Written};
+// How the program writes: bytes, and each kind of answer.
+use definition::{Record, Refusal};
 use lines::values;
-use std::io;
+use std::{fmt, io};
 
 // As many bytes as are written one by one; of more the sum is.
 const FEW: usize = 64;
 
-pub fn word(rt: &impl Print, text: &[u8]) -> io::Result<()> {
-    rt.write_all(text)
-}
-
-fn number(rt: &impl Print, name: &[u8], n: u64) -> io::Result<()> {
-    word(rt, name)?;
-    rt.print(n)
-}
-
 // To a line that is none of those that the program takes, or whose numbers are too large.
-pub fn unknown(rt: &impl Print) -> io::Result<()> {
-    word(rt, b": ?")
+pub fn print_unknown(rt: &impl Print) -> io::Result<()> {
+    print!(rt; ": ?")
 }
 
 // ---- bytes
 
 // Two digits each.
-pub fn digits(rt: &impl Print, b: &[u8]) -> io::Result<()> {
-    for x in b {
-        byte(rt, *x)?;
-    }
-    Ok(())
-}
+#[derive(Clone, Copy, Debug)]
+pub struct Digits<'a>(pub &'a [u8]);
 
-fn byte(rt: &impl Print, b: u8) -> io::Result<()> {
-    print!(rt; " {b:02x}")
+impl fmt::Display for Digits<'_> {
+    fn fmt<W: fmt::Write>(&self, f: &mut fmt::Formatter<W>) -> fmt::Result {
+        for byte in self.0 {
+            write!(f, " {byte:02x}")?;
+        }
+        Ok(())
+    }
 }
 
 // All of some bytes: themselves, or their sum.
-pub fn all(rt: &impl Print, name: &[u8], b: &[u8]) -> io::Result<()> {
-    word(rt, name)?;
+pub fn print_bytes(rt: &impl Print, name: &str, b: &[u8]) -> io::Result<()> {
     if b.len() <= FEW {
-        return digits(rt, b);
+        return print!(rt; "{name}{}", Digits(b));
     }
-    number(rt, b" sum ", values::sum(b))
+    print!(rt; "{name} sum {}", values::sum(b))
 }
 
 // ---- answers
 
-fn refused(rt: &impl Print, r: Refusal) -> io::Result<()> {
-    number(rt, b": refused ", r.number() as u64)
+// What a call answers that is not refused.
+#[derive(Clone, Copy)]
+pub enum Answer {
+    Slot(u64),
+    Accepted,
+    // None: the last reference.
+    Count(Option<u32>),
+    Free(u64),
+    Content(Record),
 }
 
-pub fn inserted(rt: &impl Print, a: Inserted) -> io::Result<()> {
-    match a {
-        Inserted::At(slot) => number(rt, b": slot ", slot),
-        Inserted::Refused(r) => refused(rt, r),
+impl fmt::Display for Answer {
+    fn fmt<W: fmt::Write>(&self, f: &mut fmt::Formatter<W>) -> fmt::Result {
+        match self {
+            Answer::Slot(slot) => write!(f, "slot {slot}"),
+            Answer::Accepted => f.write_str("accepted"),
+            Answer::Count(Some(count)) => write!(f, "count {count}"),
+            Answer::Count(None) => f.write_str("LAST REFERENCE"),
+            Answer::Free(members) => write!(f, "free {members}"),
+            Answer::Content(record) => {
+                let mark = if record.mark { ", compressed" } else { "" };
+                let Record {
+                    len,
+                    count,
+                    visits,
+                    ..
+                } = *record;
+                write!(f, "length {len}{mark}, count {count}, visits {visits}")
+            }
+        }
     }
 }
 
-pub fn written(rt: &impl Print, a: Written) -> io::Result<()> {
-    match a {
-        Written::Accepted => word(rt, b": accepted"),
-        Written::Refused(r) => refused(rt, r),
+pub fn print(rt: &impl Print, answer: Result<Answer, Refusal>) -> io::Result<()> {
+    match answer {
+        Ok(answer) => print!(rt; ": {answer}"),
+        Err(refusal) => print!(rt; ": refused {}", refusal.number()),
     }
-}
-
-pub fn changed(rt: &impl Print, a: Changed) -> io::Result<()> {
-    match a {
-        Changed::Count(n) => number(rt, b": count ", n as u64),
-        Changed::LastReference => word(rt, b": LAST REFERENCE"),
-        Changed::Refused(r) => refused(rt, r),
-    }
-}
-
-pub fn free_count(rt: &impl Print, a: FreeCount) -> io::Result<()> {
-    match a {
-        FreeCount::Members(n) => number(rt, b": free ", n),
-        FreeCount::Refused(r) => refused(rt, r),
-    }
-}
-
-pub fn found(rt: &impl Print, a: Found) -> io::Result<()> {
-    match a {
-        Found::Content(r) => record(rt, r),
-        Found::Refused(r) => refused(rt, r),
-    }
-}
-
-fn record(rt: &impl Print, r: Record) -> io::Result<()> {
-    number(rt, b": length ", r.len)?;
-    if r.mark {
-        word(rt, b", compressed")?;
-    }
-    number(rt, b", count ", r.count as u64)?;
-    number(rt, b", visits ", r.visits)
 }

@@ -1,37 +1,12 @@
 // The calls: each line's is made, and what it answers is written, with the bytes of the table or of the output after it.
-use crate::answers;
-use definition::Settings;
-use lines::values::Filling;
-use lines::{forms, values, words};
+use crate::answers::{self, Answer, Digits};
+use crate::kinds::Kind;
+use definition::{Refusal, Settings};
+use lines::{values, words};
 use std::io;
 
 // What an output holds before a read.
 const UNTOUCHED: u8 = 165;
-
-// The place of `table` among the forms of lines: before it stand the calls that write. And the place after them, for comments.
-pub const TABLE: usize = 4;
-
-const NOTHING: usize = 11;
-
-// The lines, by their places. `table` starts a new table of so many zero bytes, `set` sets one byte as no call would leave it, `bytes`
-// shows so many from a place on, `value` those that a key or content stands for. crates/lines/src/forms.rt says what the capital letters are.
-pub fn kind(line: &[u8]) -> usize {
-    let forms = b"insert key V content V C
-replace N key V content V C
-remove N
-change N S
-table N fixed|multipart uncounted|counted unkeyed|keyed L
-set N N
-read N unchecked|checked key V output N
-read_fixed N unchecked|checked key V
-free_count
-bytes N N
-value V";
-    if words::part(line, 0, b'#').len() == 0 {
-        return NOTHING;
-    }
-    forms::which_form(line, forms)
-}
 
 // The settings in a line `table`.
 pub fn settings(line: &[u8]) -> Settings {
@@ -43,157 +18,157 @@ pub fn settings(line: &[u8]) -> Settings {
     }
 }
 
-// Does what a line of this kind asks.
-pub fn call(
-    rt: &impl Print,
-    kind: usize,
-    line: &[u8],
-    table: &mut [u8],
-    s: Settings,
-) -> io::Result<()> {
-    if kind < TABLE {
-        write(rt, kind, line, table, s)?;
-        return answers::all(rt, b", table", table);
-    }
-    match kind {
-        TABLE => {
-            values::fill(table, Filling::Same(0), line);
-            Ok(())
-        }
-        5 => set(rt, line, table),
-        6 => read(rt, line, table, s),
-        7 => read_fixed(rt, line, table, s),
-        8 => answers::free_count(rt, table::free_count(table, s)),
-        9 => show(rt, line, table),
-        10 => show_value(rt, line),
-        NOTHING => Ok(()),
-        _ => answers::unknown(rt),
-    }
+// A line of a kind that the program takes, the table that its call is on, and where the answer is written.
+#[derive(Drop)]
+pub struct Call<'a, R> {
+    pub rt: &'a R,
+    pub line: &'a [u8],
+    pub table: &'a mut [u8],
+    pub settings: Settings,
 }
 
-// ---- the calls that write
-
-fn write(
-    rt: &impl Print,
-    kind: usize,
-    line: &[u8],
-    table: &mut [u8],
-    s: Settings,
-) -> io::Result<()> {
-    let slot = words::number_at(line, 1);
-    match kind {
-        0 => store(rt, line, 2, table, s, slot),
-        1 => store(rt, line, 3, table, s, slot),
-        2 => answers::written(rt, table::remove(table, s, slot)),
-        _ => answers::changed(
-            rt,
-            table::change_count(table, s, slot, words::step_at(line, 2)),
-        ),
-    }
-}
-
-// The record in a line from a place on, its key and then its content: a new one where that is the first place for it.
-fn store(
-    rt: &impl Print,
-    line: &[u8],
-    place: usize,
-    table: &mut [u8],
-    s: Settings,
-    slot: u64,
-) -> io::Result<()> {
-    let mut key_room = [0; values::ROOM];
-    let mut content_room = [0; values::ROOM];
-    let record = words::rest(line, place, b' ');
-    let k = values::value_at(record, 0, &mut key_room);
-    let n = values::value_at(record, 2, &mut content_room);
-    let mark = words::is_at(record, 3, b"compressed");
-    let key = values::front(&key_room, k);
-    let content = values::front(&content_room, n);
-    if place == 2 {
-        return answers::inserted(rt, table::insert(table, s, key, content, mark));
-    }
-    answers::written(rt, table::replace(table, s, slot, key, content, mark))
-}
-
-fn set(rt: &impl Print, line: &[u8], table: &mut [u8]) -> io::Result<()> {
-    let place = words::number_at(line, 1);
-    let byte = words::number_at(line, 2);
-    if place < table.len() as u64 {
-        if byte < 256 {
-            table[place as usize] = byte as u8;
-            return answers::all(rt, b": table", table);
+impl<R: Print> Call<'_, R> {
+    // Does what a line of this kind asks. A match, since a closure for each would be made and handed out.
+    pub fn make(&mut self, kind: Kind) -> io::Result<()> {
+        match kind {
+            Kind::Insert => self.insert(),
+            Kind::Replace => self.replace(),
+            Kind::Remove => self.remove(),
+            Kind::Change => self.change_count(),
+            Kind::Table => {
+                self.table.fill(0);
+                Ok(())
+            }
+            Kind::Set => self.set(),
+            Kind::Read => self.read(),
+            Kind::ReadFixed => self.read_fixed(),
+            Kind::FreeCount => self.free_count(),
+            Kind::Bytes => self.show_bytes(),
+            Kind::Value => self.show_value(),
+            Kind::Comment => Ok(()),
         }
     }
-    answers::unknown(rt)
-}
 
-// ---- the reads
+    // ---- the words of the line
 
-fn read(rt: &impl Print, line: &[u8], table: &[u8], s: Settings) -> io::Result<()> {
-    let mut key = [0; values::ROOM];
-    let mut output = [0; values::ROOM];
-    let n = values::value_at(line, 4, &mut key);
-    read_part(rt, line, table, s, values::front(&key, n), &mut output)
-}
-
-// As much of the output as the line asks for is lent to the read.
-fn read_part(
-    rt: &impl Print,
-    line: &[u8],
-    table: &[u8],
-    s: Settings,
-    key: &[u8],
-    output: &mut [u8],
-) -> io::Result<()> {
-    let len = words::number_at(line, 6);
-    if len > output.len() as u64 {
-        return answers::unknown(rt);
+    fn number(&self, place: usize) -> u64 {
+        words::number_at(self.line, place)
     }
-    let n = len as usize;
-    read_into(rt, line, table, s, key, &mut output[0..n])
-}
 
-// The copying read, and the whole of its output afterwards.
-fn read_into(
-    rt: &impl Print,
-    line: &[u8],
-    table: &[u8],
-    s: Settings,
-    key: &[u8],
-    room: &mut [u8],
-) -> io::Result<()> {
-    values::fill(room, Filling::Same(UNTOUCHED), key);
-    let slot = words::number_at(line, 1);
-    let checked = words::is_at(line, 2, b"checked");
-    answers::found(rt, table::read(table, s, slot, checked, key, room))?;
-    answers::all(rt, b", output", room)
-}
+    fn slot(&self) -> u64 {
+        self.number(1)
+    }
 
-// What the fixed read's companion tells, and the part of the table that the fixed read hands back.
-fn read_fixed(rt: &impl Print, line: &[u8], table: &[u8], s: Settings) -> io::Result<()> {
-    let mut room = [0; values::ROOM];
-    let n = values::value_at(line, 4, &mut room);
-    let key = values::front(&room, n);
-    let slot = words::number_at(line, 1);
-    let checked = words::is_at(line, 2, b"checked");
-    answers::found(rt, table::find_fixed(table, s, slot, checked, key))?;
-    answers::all(
-        rt,
-        b", part",
-        table::read_fixed(table, s, slot, checked, key),
-    )
-}
+    // Where the form has a value, the line has one that the room holds.
+    fn value<'b>(&self, place: usize, room: &'b mut [u8]) -> &'b [u8] {
+        values::value_at(self.line, place, room).unwrap_or(&[])
+    }
 
-// As many of these bytes as the table has.
-fn show(rt: &impl Print, line: &[u8], table: &[u8]) -> io::Result<()> {
-    let from = words::number_at(line, 1) as usize;
-    let many = words::number_at(line, 2) as usize;
-    answers::word(rt, b":")?;
-    answers::digits(rt, values::front(values::back(table, from), many))
-}
+    // The key that a read has to find in its record.
+    fn checked_key<'b>(&self, room: &'b mut [u8]) -> Option<&'b [u8]> {
+        if words::is_at(self.line, 2, b"checked") {
+            return Some(self.value(4, room));
+        }
+        None
+    }
 
-fn show_value(rt: &impl Print, line: &[u8]) -> io::Result<()> {
-    let mut room = [0; values::ROOM];
-    let n = values::value_at(line, 1, &mut room);
-    answers::all(rt, b":", values::front(&room, n))
+    // ---- the calls that write: insert and replace are two, since each has its own call and answer
+
+    fn insert(&mut self) -> io::Result<()> {
+        let mut key_room = [0; values::ROOM];
+        let mut content_room = [0; values::ROOM];
+        let key = self.value(2, &mut key_room);
+        let content = self.value(4, &mut content_room);
+        let mark = words::is_at(self.line, 5, b"compressed");
+        let inserted = table::insert(self.table, self.settings, key, content, mark);
+        self.print_written(inserted.map(Answer::Slot))
+    }
+
+    fn replace(&mut self) -> io::Result<()> {
+        let mut key_room = [0; values::ROOM];
+        let mut content_room = [0; values::ROOM];
+        let slot = self.slot();
+        let key = self.value(3, &mut key_room);
+        let content = self.value(5, &mut content_room);
+        let mark = words::is_at(self.line, 6, b"compressed");
+        let replaced = table::replace(self.table, self.settings, slot, key, content, mark);
+        self.print_written(replaced.map(|()| Answer::Accepted))
+    }
+
+    fn remove(&mut self) -> io::Result<()> {
+        let slot = self.slot();
+        let removed = table::remove(self.table, self.settings, slot);
+        self.print_written(removed.map(|()| Answer::Accepted))
+    }
+
+    fn change_count(&mut self) -> io::Result<()> {
+        let slot = self.slot();
+        let step = words::step_at(self.line, 2);
+        let changed = table::change_count(self.table, self.settings, slot, step);
+        self.print_written(changed.map(Answer::Count))
+    }
+
+    // The answer of a call that writes, and the whole table after it.
+    fn print_written(&self, answer: Result<Answer, Refusal>) -> io::Result<()> {
+        answers::print(self.rt, answer)?;
+        self.print_table(", table")
+    }
+
+    fn print_table(&self, name: &str) -> io::Result<()> {
+        answers::print_bytes(self.rt, name, self.table)
+    }
+
+    fn set(&mut self) -> io::Result<()> {
+        let place = self.number(1) as usize;
+        match u8::try_from(self.number(2)) {
+            Ok(byte) if place < self.table.len() => self.table[place] = byte,
+            _ => return answers::print_unknown(self.rt),
+        }
+        self.print_table(": table")
+    }
+
+    // ---- the reads
+
+    // The copying read into as much of an output as the line asks for, and the whole of that afterwards.
+    fn read(&self) -> io::Result<()> {
+        let mut key_room = [0; values::ROOM];
+        let mut output_room = [UNTOUCHED; values::ROOM];
+        let Some(output) = output_room.get_mut(..self.number(6) as usize) else {
+            return answers::print_unknown(self.rt);
+        };
+        let key = self.checked_key(&mut key_room);
+        let found = table::read(self.table, self.settings, self.slot(), key, output);
+        answers::print(self.rt, found.map(Answer::Content))?;
+        answers::print_bytes(self.rt, ", output", output)
+    }
+
+    // What the fixed read's companion tells, and the part of the table that the fixed read hands back.
+    fn read_fixed(&self) -> io::Result<()> {
+        let mut room = [0; values::ROOM];
+        let key = self.checked_key(&mut room);
+        let found = table::find_fixed(self.table, self.settings, self.slot(), key);
+        answers::print(self.rt, found.map(Answer::Content))?;
+        let part = table::read_fixed(self.table, self.settings, self.slot(), key);
+        answers::print_bytes(self.rt, ", part", part)
+    }
+
+    fn free_count(&self) -> io::Result<()> {
+        let free = table::free_count(self.table, self.settings);
+        answers::print(self.rt, free.map(Answer::Free))
+    }
+
+    // As many of these bytes as the table has.
+    fn show_bytes(&self) -> io::Result<()> {
+        let from = self.number(1) as usize;
+        let many = self.number(2) as usize;
+        print!(self.rt;
+            ":{}",
+            Digits(values::front(values::back(self.table, from), many))
+        )
+    }
+
+    fn show_value(&self) -> io::Result<()> {
+        let mut room = [0; values::ROOM];
+        answers::print_bytes(self.rt, ":", self.value(1, &mut room))
+    }
 }

@@ -1,33 +1,33 @@
 // Makes calls on a table in memory as its input asks, a line each, and writes each line followed by its answer: so 01's figures and the
-// recorded answers are data. src/calls.rt has the lines that it takes. Comments (#) and empty lines are only written.
+// recorded answers are data. src/kinds.rt has the lines that it takes. Comments (#) and empty lines are only written.
 #![tactic(auto)]
 
 mod answers;
 mod calls;
+mod kinds;
 
-ghost use Rattle.std.specs.Prelude.{◌≡◌, ◌≤◌, length, IfOk};
+ghost use Rattle.std.specs.Prelude.{◌≤◌, length, IfOk};
 
-use lines::{values, words};
+use calls::Call;
+use definition::Settings;
+use kinds::Kind;
+use lines::words;
 use std::io;
 use std::io::Read;
 
 // Room for a table of three slots of the largest entry size and some bytes after them; and for as much input: what is longer is left out.
-fn buffer() -> [u8; 98304]
-    ensures { 98304 ≡ length result }
-{
-    [0; 98304]
-}
+const ROOM: usize = 98304;
 
 fn main(rt: HostRuntime) -> io::Result<()> {
-    let mut input = buffer();
-    let mut buffer = buffer();
-    let n = read_full(&mut rt.reader(), &mut input)?;
-    answer_all(&rt, values::front(&input, n), &mut buffer)
+    let mut input = [0; ROOM];
+    let mut buffer = [0; ROOM];
+    let text = read_full(&mut rt.reader(), &mut input)?;
+    answer_all(&rt, text, &mut buffer)
 }
 
-// Reads until the room is full or the input ends: how many bytes it put at the start of the room.
-fn read_full(reader: &mut impl Read, room: &mut [u8]) -> io::Result<usize>
-    ensures { IfOk result (λ n. n ≤ length room.new) }
+// Reads until the room is full or the input ends: what it read. A `while`, since each read says where the next one goes on.
+fn read_full<'a>(reader: &mut impl Read, room: &'a mut [u8]) -> io::Result<&'a [u8]>
+    ensures { IfOk result (λ text. length text.now ≤ length room.old) }
 {
     let mut done = 0;
     while done < room.len() {
@@ -37,48 +37,51 @@ fn read_full(reader: &mut impl Read, room: &mut [u8]) -> io::Result<usize>
         }
         done += n;
     }
-    Ok(done)
+    Ok(&room[..done])
 }
 
-// Each line in turn; a text has no more of them than bytes. The calls are on the table of the last line `table`; before the first there is
-// none, and every call is refused.
+// The table that calls are on, as the last line `table` has it; before the first there is none, and every call is refused.
+#[derive(Clone, Copy, Default)]
+struct Opened {
+    settings: Settings,
+    len: usize,
+}
+
+// Each line in turn.
 fn answer_all(rt: &impl Print, text: &[u8], buffer: &mut [u8]) -> io::Result<()> {
-    let mut table = text.len();
-    let mut i = 0;
-    while i < text.len() {
-        if words::rest(text, i, b'\n').len() == 0 {
-            return Ok(());
+    let mut opened = Opened::default();
+    for ended in text.split_inclusive(|b| *b == b'\n') {
+        let line = ended.strip_suffix(b"\n").unwrap_or(ended);
+        let kind = Kind::of(line);
+        if kind == Some(Kind::Table) {
+            opened = Opened {
+                settings: calls::settings(line),
+                len: words::number_at(line, 5) as usize,
+            };
         }
-        let kind = calls::kind(words::part(text, i, b'\n'));
-        if kind == calls::TABLE {
-            table = i;
-        }
-        answer(
-            rt,
-            kind,
-            words::part(text, i, b'\n'),
-            words::part(text, table, b'\n'),
-            buffer,
-        )?;
-        i += 1;
+        answer(rt, kind, line, opened, buffer)?;
     }
     Ok(())
 }
 
-// Writes a line and its answer.
+// Writes a line and its answer; the table that its call is on is the front of the buffer.
 fn answer(
     rt: &impl Print,
-    kind: usize,
+    kind: Option<Kind>,
     line: &[u8],
-    table: &[u8],
+    opened: Opened,
     buffer: &mut [u8],
 ) -> io::Result<()> {
-    answers::word(rt, line)?;
-    let len = words::number_at(table, 5);
-    if len > buffer.len() as u64 {
-        return answers::word(rt, b": ?\n");
+    rt.write_all(line)?;
+    match (kind, buffer.get_mut(..opened.len)) {
+        (Some(kind), Some(table)) => Call {
+            rt,
+            line,
+            table,
+            settings: opened.settings,
+        }
+        .make(kind)?,
+        _ => answers::print_unknown(rt)?,
     }
-    let n = len as usize;
-    calls::call(rt, kind, line, &mut buffer[0..n], calls::settings(table))?;
-    answers::word(rt, b"\n")
+    rt.write_all(b"\n")
 }

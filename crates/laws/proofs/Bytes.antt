@@ -1,10 +1,10 @@
 -- Numbers as bytes, over the width k: k bytes of a number below 256 ^ k spell it again (`le_bytes`), k bytes are the bytes of the
--- number that they spell (`bytes_le`), and two numbers side by side are one (`le-two-parts`, `bytes_append`).
+-- number that they spell (`bytes_le`), and two numbers side by side are one (`num_two_parts`).
 use mathlib.Core.Path.{◌≡◌, refl, sym, ap, ◌∙◌}
 use mathlib.Core.List.{List, [], ◌∷◌, ◌++◌}
 use Prim.Native.Nat.{ℕ, zero, suc, ◌+◌, ◌*◌, ◌/◌, ◌%◌, ◌^◌, ◌≤◌, ◌<◌}
 use native.Mathlib.Numerals.{add-one}
-use native.Mathlib.Nat.{mul_assoc, pow-succ', pow-suc, add_comm, div-add-mod, div-div-eq-div-mul, div-lt_iff_lt-mul, zero-lt-suc, suc-add, zero-add, div-one, min-le_left}
+use native.Mathlib.Nat.{mul_assoc, pow-succ', pow-suc, div-lt_iff_lt-mul, zero-lt-suc, min-le_left}
 use native.Mathlib.Decide.{dec_lt}
 use native.Mathlib.Omega.{arith}
 use lib.ListN.{length, take, drop, get_or, length-take, get_or-eq_default}
@@ -32,14 +32,6 @@ pub num_step : (at k : ℕ) (t : List ℕ) → at < length t → num at (suc k) 
 unfolding num le
 num_step at k t h = rw (add-one, drop-cons t at 0)
 
-num_none : (at : ℕ) (t : List ℕ) → num at 0 t ≡ 0
-unfolding num le
-num_none at t = refl
-
-pub num_two : (at : ℕ) (t : List ℕ) → at + 2 ≤ length t → num at 2 t ≡ get_or t at 0 + get_or t (at + 1) 0 * 256
-num_two at t h =
-    omega (arith, num_step at 1 t (omega arith), num_step (at + 1) 0 t (omega arith), num_none (at + 1 + 1) t)
-
 le_append : (xs ys : List ℕ) → le (xs ++ ys) ≡ le xs + 256 ^ length xs * le ys
 unfolding le
 le_append [] ys = omega arith
@@ -51,31 +43,6 @@ unfolding num
 num_two_parts a b at t h = rw (take-add, le_append, length_part t at a h, drop-drop)
 
 -- ---- storing
-
--- what stands above the k lowest bytes does not count
-bytes_above : (k n m : ℕ) → bytes k (n + 256 ^ k * m) ≡ bytes k n
-unfolding bytes
-bytes_above zero n m = refl
-bytes_above (suc k) n m =
-    let e : (n + 256 * (256 ^ k * m)) % 256 ≡ n % 256 = omega arith in
-    let d : (n + 256 * (256 ^ k * m)) / 256 ≡ n / 256 + 256 ^ k * m = omega arith in
-    rw (pow-succ' 256 k, mul_assoc 256 (256 ^ k) m, e, d, bytes_above k (n / 256) m)
-
-bytes_mod : (k n : ℕ) → bytes k (n % 256 ^ k) ≡ bytes k n
-bytes_mod k n = sym (bytes_above k (n % 256 ^ k) (n / 256 ^ k)) ∙ ap (bytes k) (add_comm (n % 256 ^ k) (256 ^ k * (n / 256 ^ k)) ∙ div-add-mod n (256 ^ k))
-
-bytes_append : (a b n : ℕ) → bytes a n ++ bytes b (n / 256 ^ a) ≡ bytes (a + b) n
-unfolding bytes
-bytes_append zero b n = rw (div-one, zero-add)
-bytes_append (suc a) b n = rw (pow-succ', ← div-div-eq-div-mul, suc-add, bytes_append a b (n / 256))
-
--- the low half and the high half
-pub bytes_halves : (k n : ℕ) → bytes k (n % 256 ^ k) ++ bytes k (n / 256 ^ k) ≡ bytes (k + k) n
-bytes_halves k n = ap (λ (b : List ℕ). b ++ bytes k (n / 256 ^ k)) (bytes_mod k n) ∙ bytes_append k k n
-
-pub bytes_two : (n : ℕ) → n < 65536 → n % 256 ∷ n / 256 ∷ [] ≡ bytes 2 n
-unfolding bytes
-bytes_two n h = let e : n / 256 % 256 ≡ n / 256 = omega arith in rw e
 
 -- ---- bytes and the number that they spell say the same
 

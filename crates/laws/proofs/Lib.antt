@@ -17,6 +17,7 @@ pub mod Starts
 pub mod Heads
 pub mod Passed
 pub mod Sizes
+pub mod FixedParts
 pub mod Overheads
 pub mod Parts
 pub mod NewChains

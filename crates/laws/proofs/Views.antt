@@ -3,7 +3,7 @@
 use mathlib.Core.Path.{◌≡◌, refl, sym, ap, ap₂, ◌∙◌, fun_ext}
 use mathlib.Core.Logic.{◌≢◌}
 use Prim.Native.Nat.{ℕ, ◌+◌, ◌-◌, ◌*◌, ◌≤◌, ◌<◌}
-use native.Mathlib.Nat.{add-zero, mul-le-mul_right}
+use native.Mathlib.Nat.{mul-le-mul_right}
 use native.Mathlib.Omega.{arith}
 use mathlib.Core.Bool.{cond}
 use mathlib.Core.List.{List, [], ◌∷◌, ◌++◌}
@@ -15,7 +15,7 @@ use Rattle.definition.specs.Numbers.{le, num, over, put}
 use Rattle.definition.specs.Slots.{View, view, Store, store}
 use Rattle.laws.proofs.Conditions.{cond_yes, cond_no, by_order}
 use Rattle.laws.proofs.Lists.{take_append, drop_take, length_part}
-use Rattle.laws.proofs.Puts.{length_put, lent_put}
+use Rattle.laws.proofs.Puts.{length_put}
 
 -- ---- one slot
 
@@ -29,11 +29,6 @@ within E i F n h g = omega (arith, apart E F i h)
 pub length_view : (E i : ℕ) (t : List ℕ) → i * E + E ≤ length t → length (view E t i) ≡ E
 unfolding view
 length_view E i t h = length_part t (i * E) E h
-
--- the part `&t[i * E .. i * E + E]` is slot i
-pub part_view : (E i : ℕ) (t : List ℕ) → take (i * E + E - i * E) (drop (i * E) t) ≡ view E t i
-unfolding view
-part_view E i t = let e : i * E + E - i * E ≡ E = omega arith in rw e refl
 
 -- slot 0 is the table's front
 pub view_zero : (E : ℕ) (t : List ℕ) → view E t 0 ≡ take E t
@@ -104,16 +99,6 @@ view_put E i t bs hb ht =
     (λ h. view_other E i j t bs (omega arith) hb ht ∙ sym (upd_other (view E t) i j bs (omega arith)))
     (λ e. ap (view E (put t (i * E) bs)) e ∙ view_same E i t bs hb ht ∙ sym (upd_same (view E t) i bs) ∙ ap (upd (view E t) i bs) (sym e))
     (λ h. view_other E i j t bs (omega arith) hb ht ∙ sym (upd_other (view E t) i j bs (omega arith))))
-
--- slot i, lent on as a part of the table, comes back with bs over its front: a store, and every other byte as it was
-pub lent_slot : (t : List ℕ) (E i : ℕ) (ys bs : List ℕ) → i * E + E ≤ length t → length bs ≤ E → ys ≡ put (take (i * E + E - i * E) (drop (i * E) t)) 0 bs
-    → take (i * E) t ++ (ys ++ drop (i * E + E - i * E) (drop (i * E) t)) ≡ put t (i * E) bs
-lent_slot t E i ys bs h l q =
-    lent_put t (i * E) (i * E + E) ys 0 bs (omega arith) h (omega arith) q ∙ ap (λ (k : ℕ). put t k bs) (add-zero (i * E))
-
--- the part lent has the slot's length
-pub lent_length : (E i : ℕ) (t : List ℕ) → i * E + E ≤ length t → length (take (i * E + E - i * E) (drop (i * E) t)) ≡ E
-lent_length E i t h = ap length (part_view E i t) ∙ length_view E i t h
 
 -- ---- many stores
 

@@ -1,100 +1,88 @@
 // Texts cut at a separator, as a line into words; words compared, and read as numbers. Nothing here asks anything of its caller: a part
-// that is not there is empty, and what is read of a word that spells no number means nothing.
-ghost use Rattle.std.specs.Prelude.{◌≤◌, length};
+// that is not there is empty, and of a word that spells no number 0 is read. A line is lent whole and each call asks another place of it, so
+// both are parameters.
+ghost use Rattle.std.specs.Prelude.{◌≡◌, ◌≢◌, ◌<◌, ◌↔◌, IsTrue, IfSome, IfNone};
+ghost use Rattle.std.specs.List.{All};
+ghost use Rattle.lines.specs.Words.{parts_of, part_at, EndsIn};
 
-// More parts than any text here is asked for.
+// As many words of a line are compared with those of a form.
 pub const MOST: usize = 16;
 
 // ---- parts of a text
 
-// Where the parts from a place on start, from 0 on: after so many separators, or at the text's end.
-fn start(text: &[u8], place: usize, separator: u8) -> usize
-    ensures { result ≤ length text.now }
+// The parts from a place on, from 0 on.
+pub fn rest(text: &[u8], place: usize, separator: u8) -> &[u8]
+    ensures { EndsIn text.now result.now }
 {
-    let mut i = 0;
-    let mut left = place;
-    while i < text.len() {
-        if left == 0 {
-            return i;
-        }
-        if text[i] == separator {
-            left -= 1;
-        }
-        i += 1;
-    }
-    i
+    text.splitn(place.saturating_add(1), |b| *b == separator)
+        .nth(place)
+        .unwrap_or(&[])
 }
 
-// The parts from a place on.
-pub fn rest<'a>(text: &'a [u8], place: usize, separator: u8) -> &'a [u8] {
-    let from = start(text, place, separator);
-    &text[from..]
+pub fn part(text: &[u8], place: usize, separator: u8) -> &[u8]
+    ensures { result.now ≡ part_at text.now place separator }
+{
+    text.split(|b| *b == separator).nth(place).unwrap_or(&[])
 }
 
-pub fn part<'a>(text: &'a [u8], place: usize, separator: u8) -> &'a [u8] {
-    front_to(rest(text, place, separator), separator)
-}
-
-// What stands before the first separator, or all where there is none.
-fn front_to<'a>(text: &'a [u8], separator: u8) -> &'a [u8] {
-    match text.iter().position(|b| *b == separator) {
-        Some(to) => &text[..to],
-        None => text,
-    }
-}
-
-pub fn word<'a>(line: &'a [u8], place: usize) -> &'a [u8] {
+pub fn word(line: &[u8], place: usize) -> &[u8]
+    ensures { result.now ≡ part_at line.now place 32 }
+{
     part(line, place, b' ')
 }
 
-pub fn is_at(line: &[u8], place: usize, name: &[u8]) -> bool {
+pub fn is_at(line: &[u8], place: usize, name: &[u8]) -> bool
+    ensures { IsTrue result ↔ (part_at line.now place 32 ≡ name.now) }
+{
     word(line, place) == name
 }
 
-// The place of a word among some names, or MOST.
-pub fn which(word: &[u8], names: &[u8], separator: u8) -> usize {
-    let mut i = 0;
-    while i < MOST {
-        if part(names, i, separator) == word {
-            return i;
-        }
-        i += 1;
-    }
-    i
+// The place of a word among some names.
+pub fn which(word: &[u8], names: &[u8], separator: u8) -> Option<usize>
+    ensures found { IfSome result (λ place. part_at names.now place separator ≡ word.now) }
+    ensures missing { IfNone result (All (λ name. name ≢ word.now) (parts_of names.now separator)) }
+{
+    names
+        .split(|b| *b == separator)
+        .position(|name| name == word)
 }
 
 // ---- numbers
 
-// The value of a hexadecimal digit; 16 for any other byte.
-pub fn digit(byte: u8) -> u8 {
+// The value of a hexadecimal digit. Not char::to_digit: capitals are no digits here.
+pub fn digit(byte: u8) -> Option<u8>
+    ensures { IfSome result (λ value. value < 16) }
+{
     match byte {
-        b'0'..=b'9' => byte - b'0',
-        b'a'..=b'f' => byte - b'a' + 10,
-        _ => 16,
+        b'0'..=b'9' => Some(byte - b'0'),
+        b'a'..=b'f' => Some(byte - b'a' + 10),
+        _ => None,
     }
+}
+
+// The value of a digit in this base, up to 16.
+fn digit_in(base: u8, byte: u8) -> Option<u8>
+    ensures { IfSome result (λ value. value < 16) }
+{
+    digit(byte).filter(|value| *value < base)
 }
 
 // Whether a word spells a number in this base, up to 16.
 pub fn spells(word: &[u8], base: u8) -> bool {
-    let mut i = 0;
-    while i < word.len() {
-        if digit(word[i]) >= base {
-            return false;
-        }
-        i += 1;
-    }
-    i > 0
+    !word.is_empty() && word.iter().all(|b| digit_in(base, *b).is_some())
 }
 
 // What a decimal word spells; one of more than 64 bits counts as their largest.
-pub fn number(word: &[u8]) -> u64 {
-    let mut n = 0;
-    let mut i = 0;
-    while i < word.len() {
-        n = with_digit(n, digit(word[i]));
-        i += 1;
+pub(crate) fn decimal(word: &[u8]) -> Option<u64> {
+    if word.is_empty() {
+        return None;
     }
-    n
+    word.iter()
+        .try_fold(0, |n, b| Some(with_digit(n, digit_in(10, *b)?)))
+}
+
+pub fn number(word: &[u8]) -> u64 {
+    decimal(word).unwrap_or(0)
 }
 
 pub fn number_at(line: &[u8], place: usize) -> u64 {
@@ -102,44 +90,35 @@ pub fn number_at(line: &[u8], place: usize) -> u64 {
 }
 
 pub fn spells_up_to(word: &[u8], most: u64) -> bool {
-    spells(word, 10) && number(word) <= most
+    decimal(word).is_some_and(|n| n <= most)
 }
 
-fn with_digit(n: u64, digit: u8) -> u64 {
-    if n > u64::MAX / 10 - 1 {
+// Not saturating_mul and saturating_add: from 18446744073709551610 on each number counts as the largest, and what is written of it stays.
+fn with_digit(n: u64, digit: u8) -> u64
+    requires { digit < 16 }
+{
+    if n >= u64::MAX / 10 {
         return u64::MAX;
     }
-    n * 10 + (digit % 16) as u64
+    n * 10 + u64::from(digit)
 }
 
 // ---- steps
 
-// What follows the sign of a negative number; empty where a word has no sign before it.
-fn negated<'a>(word: &'a [u8]) -> &'a [u8] {
-    if part(word, 0, b'-').len() > 0 {
-        return &word[0..0];
-    }
-    rest(word, 1, b'-')
+// What a word spells as a signed number of 32 bits.
+fn step(word: &[u8]) -> Option<i32> {
+    let n = match word.strip_prefix(b"-") {
+        Some(digits) => -i64::try_from(decimal(digits)?).ok()?,
+        None => i64::try_from(decimal(word)?).ok()?,
+    };
+    i32::try_from(n).ok()
 }
 
 // Whether a word spells a signed number of 32 bits.
 pub fn spells_step(word: &[u8]) -> bool {
-    let digits = negated(word);
-    if digits.len() > 0 {
-        return spells_up_to(digits, 2147483648);
-    }
-    spells_up_to(word, 2147483647)
+    step(word).is_some()
 }
 
-// The complement of n - 1 is -n.
 pub fn step_at(line: &[u8], place: usize) -> i32 {
-    let n = number(negated(word(line, place)));
-    if n > 0 {
-        return !low31(n - 1);
-    }
-    low31(number_at(line, place))
-}
-
-fn low31(n: u64) -> i32 {
-    (n % 2147483648) as i32
+    step(word(line, place)).unwrap_or(0)
 }

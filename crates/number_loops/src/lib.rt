@@ -2,16 +2,14 @@
 // none of it. They are proved safe and ending; that their answers are the Rust's, the benchmark compares.
 #![tactic(auto)]
 
-use numbers::{read_u64, write_u64};
+use numbers::Number;
 
 // The sum of the numbers in s, eight bytes each, as it wraps.
 #[unsafe(no_mangle)]
 pub extern "C" fn number_loops_sum(s: &[u8]) -> u64 {
     let mut sum: u64 = 0;
-    let mut at = 0;
-    while 8 <= s.len() - at {
-        sum = std::num::wrapping_add_u64(sum, read_u64(s, at));
-        at += 8;
+    for b in s.chunks_exact(8) {
+        sum = sum.wrapping_add(u64::read(b, 0));
     }
     sum
 }
@@ -20,10 +18,8 @@ pub extern "C" fn number_loops_sum(s: &[u8]) -> u64 {
 #[unsafe(no_mangle)]
 pub extern "C" fn number_loops_fill(s: &mut [u8], first: u64, step: u64) {
     let mut n = first;
-    let mut at = 0;
-    while 8 <= s.len() - at {
-        write_u64(s, at, n);
-        n = std::num::wrapping_add_u64(n, step);
-        at += 8;
+    for b in s.chunks_exact_mut(8) {
+        n.write(b, 0);
+        n = n.wrapping_add(step);
     }
 }

@@ -2,102 +2,107 @@
 // Of a slot it knows only that its mark stands first.
 #![tactic(auto)]
 
-ghost use Rattle.std.specs.Prelude.{◌≡◌, [], ◌∷◌, ◌+◌, ◌≤◌, length, get_or};
-ghost use Rattle.definition.specs.Numbers.{bytes, le, num, put};
+ghost use Rattle.std.specs.Prelude.{◌≡◌, ℕ, [], ◌∷◌, ◌+◌, ◌≤◌, length, get_or};
+ghost use Rattle.definition.specs.Numbers.{bytes, num, put};
 ghost use Rattle.definition.specs.Slots.{marked};
 
 // ---- numbers
 
-// The two-byte number at place `at`.
-pub fn read_u16(s: &[u8], at: usize) -> u16
-    requires { at + 2 ≤ length s.now }
-    ensures { result ≡ num at 2 s.now }
-{
-    (s[at] as u16) + (s[at + 1] as u16) * 0x100
+// A number as a slot holds it: so many bytes, the lowest first.
+pub trait Number: Copy {
+    // How many bytes.
+    const SIZE: usize;
+
+    ghost SIZE: { ℕ };
+
+    ghost value: { Self → ℕ };
+
+    // The number at place `at`, which is another at each call: slice and place that go together are entry's `EntryRef`.
+    fn read(s: &[u8], at: usize) -> Self
+        requires { at + SIZE ≤ length s.now }
+        ensures { value result ≡ num at SIZE s.now };
+
+    // Stores it at place `at`.
+    fn write(self, s: &mut [u8], at: usize)
+        requires { at + SIZE ≤ length s.old }
+        ensures { s.new ≡ put s.old at (bytes SIZE (value self)) };
 }
 
-// The four-byte number at place `at`.
-pub fn read_u32(s: &[u8], at: usize) -> u32
-    requires { at + 4 ≤ length s.now }
-    ensures { result ≡ num at 4 s.now }
-{
-    (read_u16(s, at) as u32) + (read_u16(s, at + 2) as u32) * 0x1_0000
+// The three differ in the width alone, and are written out: an impl by a macro of ours is refused. Their bytes stand one by one, since wrong
+// orders of them are must-fail edits.
+impl Number for u16 {
+    const SIZE: usize = 2;
+
+    ghost SIZE = { 2 };
+
+    ghost value = { λ n. n };
+
+    #[tactic(auto, using(crate::proofs::Widths::spelt))]
+    fn read(s: &[u8], at: usize) -> u16 {
+        let b = &s[at..at + 2];
+        u16::from_le_bytes([b[0], b[1]])
+    }
+
+    #[tactic(auto, using(crate::proofs::Widths::stored))]
+    fn write(self, s: &mut [u8], at: usize) {
+        s[at..at + 2].copy_from_slice(&self.to_le_bytes());
+    }
 }
 
-// The number that eight bytes spell, the lowest first.
-fn spelt(a: u8, b: u8, c: u8, d: u8, e: u8, f: u8, g: u8, h: u8) -> u64
-    ensures { result ≡ le (a ∷ b ∷ c ∷ d ∷ e ∷ f ∷ g ∷ h ∷ []) }
-{
-    (a as u64)
-        + (b as u64) * 0x100
-        + (c as u64) * 0x1_0000
-        + (d as u64) * 0x100_0000
-        + (e as u64) * 0x1_0000_0000
-        + (f as u64) * 0x100_0000_0000
-        + (g as u64) * 0x1_0000_0000_0000
-        + (h as u64) * 0x100_0000_0000_0000
+impl Number for u32 {
+    const SIZE: usize = 4;
+
+    ghost SIZE = { 4 };
+
+    ghost value = { λ n. n };
+
+    #[tactic(auto, using(crate::proofs::Widths::spelt))]
+    fn read(s: &[u8], at: usize) -> u32 {
+        let b = &s[at..at + 4];
+        u32::from_le_bytes([b[0], b[1], b[2], b[3]])
+    }
+
+    #[tactic(auto, using(crate::proofs::Widths::stored))]
+    fn write(self, s: &mut [u8], at: usize) {
+        s[at..at + 4].copy_from_slice(&self.to_le_bytes());
+    }
 }
 
-// The eight-byte number at place `at`.
-pub fn read_u64(s: &[u8], at: usize) -> u64
-    requires { at + 8 ≤ length s.now }
-    ensures { result ≡ num at 8 s.now }
-{
-    let end = at + 8;
-    let b = &s[at..end];
-    spelt(b[0], b[1], b[2], b[3], b[4], b[5], b[6], b[7])
-}
+impl Number for u64 {
+    const SIZE: usize = 8;
 
-// Stores n in two bytes at place `at`.
-pub fn write_u16(s: &mut [u8], at: usize, n: u16)
-    requires { at + 2 ≤ length s.old }
-    ensures { s.new ≡ put s.old at (bytes 2 n) }
-{
-    s[at] = (n % 0x100) as u8;
-    s[at + 1] = (n / 0x100) as u8;
-}
+    ghost SIZE = { 8 };
 
-// Stores n in four bytes at place `at`.
-pub fn write_u32(s: &mut [u8], at: usize, n: u32)
-    requires { at + 4 ≤ length s.old }
-    ensures { s.new ≡ put s.old at (bytes 4 n) }
-{
-    write_u16(s, at, (n % 0x1_0000) as u16);
-    write_u16(s, at + 2, (n / 0x1_0000) as u16);
-}
+    ghost value = { λ n. n };
 
-// Stores n in eight bytes at place `at`.
-pub fn write_u64(s: &mut [u8], at: usize, n: u64)
-    requires { at + 8 ≤ length s.old }
-    ensures { s.new ≡ put s.old at (bytes 8 n) }
-{
-    let end = at + 8;
-    let b = &mut s[at..end];
-    b[0] = (n % 0x100) as u8;
-    b[1] = (n / 0x100 % 0x100) as u8;
-    b[2] = (n / 0x1_0000 % 0x100) as u8;
-    b[3] = (n / 0x100_0000 % 0x100) as u8;
-    b[4] = (n / 0x1_0000_0000 % 0x100) as u8;
-    b[5] = (n / 0x100_0000_0000 % 0x100) as u8;
-    b[6] = (n / 0x1_0000_0000_0000 % 0x100) as u8;
-    b[7] = (n / 0x100_0000_0000_0000) as u8;
+    #[tactic(auto, using(crate::proofs::Widths::spelt))]
+    fn read(s: &[u8], at: usize) -> u64 {
+        let b = &s[at..at + 8];
+        u64::from_le_bytes([b[0], b[1], b[2], b[3], b[4], b[5], b[6], b[7]])
+    }
+
+    #[tactic(auto, using(crate::proofs::Widths::stored))]
+    fn write(self, s: &mut [u8], at: usize) {
+        s[at..at + 8].copy_from_slice(&self.to_le_bytes());
+    }
 }
 
 // ---- marks
 
 // Whether the slot starts with the mark.
+#[tactic(auto, using(crate::proofs::Marks::marked_pair))]
 pub fn has_mark(slot: &[u8], mark: &[u8; 2]) -> bool
     requires { 2 ≤ length slot.now }
     ensures { result ≡ marked (get_or mark.now 0 0 ∷ get_or mark.now 1 0 ∷ []) slot.now }
 {
-    slot[0] == mark[0] && slot[1] == mark[1]
+    slot[..2] == mark[..]
 }
 
 // Stores the mark at the slot's start.
+#[tactic(auto, using(crate::proofs::Marks::put_pair))]
 pub fn write_mark(slot: &mut [u8], mark: &[u8; 2])
     requires { 2 ≤ length slot.old }
     ensures { slot.new ≡ put slot.old 0 (get_or mark.now 0 0 ∷ get_or mark.now 1 0 ∷ []) }
 {
-    slot[0] = mark[0];
-    slot[1] = mark[1];
+    slot[..2].copy_from_slice(mark);
 }

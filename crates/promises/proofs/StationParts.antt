@@ -20,7 +20,7 @@ use Rattle.definition.specs.Sound.{Sound}
 use Rattle.definition.specs.Ledger.{ReadFixed, Look, ledger_step}
 use Rattle.definition.specs.Run.{ledger_of, run}
 use Rattle.ledger.proofs.OneCall.{call_agrees}
-use Rattle.table.proofs.ReadLaws.{fixed_part}
+use Rattle.laws.proofs.FixedParts.{fixed_part}
 use Rattle.station.specs.declared.answers.PyltarkaSettings.{PyltarkaSettings}
 use Rattle.station.specs.declared.answers.PyltarkaPart.{PyltarkaPart}
 use Rattle.station.specs.Forms.{settings_of, told}

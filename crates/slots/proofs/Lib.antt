@@ -1,4 +1,3 @@
 -- Laws of the settings, the header and the keys: one for each way out of a function.
-pub mod SettingsLaws
 pub mod HeaderLaws
 pub mod KeyLaws

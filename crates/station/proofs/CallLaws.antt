@@ -1,37 +1,30 @@
--- An exported call answers, in C's form, what the definition answers for the settings that C lent, and leaves what it leaves.
+-- The fixed read that is accepted: its content lies in the table (`part_at`), and what it tells, member by member, is the definition's answer
+-- (`part_told`).
 use mathlib.Core.Path.{◌≡◌, sym, ap, ◌∙◌}
-use mathlib.Core.Bool.{Bool, false, cond}
-use Prim.Native.Nat.{ℕ, ◌+◌, ◌*◌}
-use native.Mathlib.Omega.{arith}
-use borrow.Author.Tests.{ne_eqb}
+use mathlib.Core.Option.{Option}
+use mathlib.Core.List.{List}
+use Prim.Native.Nat.{ℕ, ◌+◌, ◌≤◌}
+use lib.ListN.{length}
+use Rattle.std.specs.Prelude.{Result, Ok}
 use Rattle.definition.specs.declared.Settings.{Settings}
 use Rattle.definition.specs.declared.Refusal.{Refusal}
 use Rattle.definition.specs.declared.Record.{Record}
-use Rattle.definition.specs.declared.Found.{Found}
-use Rattle.definition.specs.Tests.{number_of}
-use Rattle.definition.specs.Settings.{prefix_len}
-use Rattle.definition.specs.Answers.{Answer, refusal, found_of}
-use Rattle.laws.proofs.Tests.{number_some}
+use Rattle.definition.specs.Answers.{found_of}
+use Rattle.definition.specs.Calls.{content_start, find_fixed}
+use Rattle.laws.proofs.FixedParts.{fixed_part}
 use Rattle.station.specs.declared.answers.PyltarkaPart.{PyltarkaPart}
-use Rattle.definition.specs.Calls.{content_start}
 use Rattle.station.specs.Forms.{part_in}
 
--- a call `g` of settings that are the ones lent, with its answer in the form `f`
-pub crosses : {S X : Type 0} (f : Answer → S) (g : Settings → Answer × X) {r : S} {a : Answer} {x : X} {own lent : Settings} → r ≡ f a → own ≡ lent → (a, x) ≡ g own
-    → (r ≡ f (g lent).0) × (x ≡ (g lent).1)
-crosses f g form same e =
-    let w = e ∙ ap g same in
-    (form ∙ ap (λ p. f p.0) w, ap (λ p. p.1) w)
+abbrev part_from : ℕ → Record → PyltarkaPart
+part_from start x = record { offset = start; length = x.len; visits = x.visits; number = 0; count = x.count; mark = x.mark }
 
--- a fixed read, member by member
-abbrev pub part_with : ℕ → ℕ → ℕ → ℕ → ℕ → Bool → PyltarkaPart
-part_with o l v n c m = record { offset = o; length = l; visits = v; number = n; count = c; mark = m }
+module _ (s : Settings) (t : List ℕ) (h : ℕ) (key : Option (List ℕ)) {answer : Result Record Refusal} {x : Record} (is : answer ≡ Ok x) (e : found_of answer ≡ find_fixed s key h t) where
+  told : found_of (Ok x) ≡ find_fixed s key h t
+  told = ap found_of (sym is) ∙ e
 
-pub part_refused : (s : Settings) (h n : ℕ) (r : Refusal) → n ≡ number_of r → part_with 0 0 0 n 0 false ≡ part_in s h (refusal (number_of r))
-part_refused s h n r e =
-    ap (λ (m : ℕ). part_with 0 0 0 m 0 false) e
-    ∙ ap (λ (b : Bool). part_with (cond b (content_start s h) 0) 0 0 (number_of r) 0 false) (sym (ne_eqb (number_of r) 0 (λ z. omega (arith, number_some r))))
+  pub part_at : content_start s h + x.len ≤ length t
+  unfolding content_start
+  part_at = (fixed_part s t h key x.len x.mark x.count x.visits told).inside
 
-pub part_told : (s : Settings) (h p : ℕ) (x : Record) → p ≡ prefix_len s → part_with (h * s.size + 2 + p) x.len x.visits 0 x.count x.mark ≡ part_in s h (found_of (Found.Content x))
-unfolding content_start
-part_told s h p x e = ap (λ (q : ℕ). part_with (h * s.size + 2 + q) x.len x.visits 0 x.count x.mark) e
+  pub part_told : (start : ℕ) → start ≡ content_start s h → part_from start x ≡ part_in s h (find_fixed s key h t)
+  part_told start p = ap (λ (k : ℕ). part_from k x) p ∙ ap (part_in s h) told

@@ -1,5 +1,6 @@
 // The calls of the station for C and whatever links C, which include/pyltarka.h declares: each is a call of `table` under its whole
-// contract, its settings and its answer in C's form. The crate station_c exports them.
+// contract, its settings and its answer in C's form: C has no Option and no Result, hence a flag beside the key, a number that is 0 or the
+// refusal, and a struct for each answer. The crate station_c exports them.
 #![tactic(auto)]
 
 mod answers;
@@ -8,13 +9,12 @@ ghost use Rattle.std.specs.Prelude.{◌≡◌};
 ghost use Rattle.definition.specs.Calls.{insert, replace, remove, change, checked_key, read, find_fixed, free_count};
 ghost use Rattle.station.specs.Forms.{settings_of, number_in, inserted_in, changed_in, record_in, part_in, counted_in};
 
-use crate::answers::{changed_in, counted_in, inserted_in, number_in, record_in, settings_of};
+use crate::answers::{key_if, number_in};
 pub use answers::{
     PyltarkaChanged, PyltarkaCounted, PyltarkaInserted, PyltarkaPart, PyltarkaRecord,
     PyltarkaSettings,
 };
-use definition::Found;
-use slots::settings::prefix_len;
+use definition::Settings;
 
 // Stores a record under a key with its content and compressed mark; answers the slot of its head.
 pub fn pyltarka_insert(
@@ -27,7 +27,7 @@ pub fn pyltarka_insert(
     ensures { (result ≡ inserted_in (insert (settings_of s) key.now content.now mark table.old).0)
         × (table.new ≡ (insert (settings_of s) key.now content.now mark table.old).1) }
 {
-    inserted_in(table::insert(table, settings_of(s), key, content, mark))
+    table::insert(table, s.into(), key, content, mark).into()
 }
 
 // Replaces the record whose head is in the slot: key, content and mark anew, the count 1 again.
@@ -42,7 +42,7 @@ pub fn pyltarka_replace(
     ensures { (result ≡ number_in (replace (settings_of s) key.now content.now mark slot table.old).0)
         × (table.new ≡ (replace (settings_of s) key.now content.now mark slot table.old).1) }
 {
-    number_in(table::replace(table, settings_of(s), slot, key, content, mark))
+    number_in(table::replace(table, s.into(), slot, key, content, mark))
 }
 
 // Removes the record whose head is in the slot.
@@ -50,7 +50,7 @@ pub fn pyltarka_remove(table: &mut [u8], s: PyltarkaSettings, slot: u64) -> u32
     ensures { (result ≡ number_in (remove (settings_of s) slot table.old).0)
         × (table.new ≡ (remove (settings_of s) slot table.old).1) }
 {
-    number_in(table::remove(table, settings_of(s), slot))
+    number_in(table::remove(table, s.into(), slot))
 }
 
 // Changes the count of the record in a slot by a signed step; answers the stored count, or that this was the last reference.
@@ -63,7 +63,7 @@ pub fn pyltarka_change_count(
     ensures { (result ≡ changed_in (change (settings_of s) step slot table.old).0)
         × (table.new ≡ (change (settings_of s) step slot table.old).1) }
 {
-    changed_in(table::change_count(table, settings_of(s), slot, step))
+    table::change_count(table, s.into(), slot, step).into()
 }
 
 // The copying read: the content into the front of the output, whose bytes past it stay. With a key checked, or without.
@@ -78,10 +78,11 @@ pub fn pyltarka_read(
     ensures { (result ≡ record_in (read (settings_of s) (checked_key checked key.now) slot table.now output.old).0)
         × (output.new ≡ (read (settings_of s) (checked_key checked key.now) slot table.now output.old).1) }
 {
-    record_in(table::read(table, settings_of(s), slot, checked, key, output))
+    table::read(table, s.into(), slot, key_if(checked, key), output).into()
 }
 
-// The fixed read: where in the table the content starts, and what its companion tells. On a multipart table it gives 1.
+// The fixed read: where in the table the content starts, and what its companion tells. On a multipart table it gives 1. No From makes its
+// struct: where the content starts is not in the answer of the call.
 pub fn pyltarka_read_fixed(
     table: &[u8],
     s: PyltarkaSettings,
@@ -91,28 +92,20 @@ pub fn pyltarka_read_fixed(
 ) -> PyltarkaPart
     ensures { result ≡ part_in (settings_of s) slot (find_fixed (settings_of s) (checked_key checked key.now) slot table.now) }
 {
-    let own = settings_of(s);
-    match table::find_fixed(table, own, slot, checked, key) {
-        Found::Refused(r) => PyltarkaPart {
-            offset: 0,
-            length: 0,
-            visits: 0,
-            number: r.number(),
-            count: 0,
-            mark: false,
+    let own = Settings::from(s);
+    match table::find_fixed(table, own, slot, key_if(checked, key)) {
+        Ok(record) => PyltarkaPart {
+            offset: own.content_start(slot) as u64,
+            length: record.len,
+            visits: record.visits,
+            number: 0,
+            count: record.count,
+            mark: record.mark,
         },
-        Found::Content(x) => {
-            let prefix = prefix_len(own);
-            let start = (slot as usize) * own.size + definition::SIZE_SIZE + prefix;
-            PyltarkaPart {
-                offset: start as u64,
-                length: x.len,
-                visits: x.visits,
-                number: 0,
-                count: x.count,
-                mark: x.mark,
-            }
-        }
+        Err(refusal) => PyltarkaPart {
+            number: refusal.number(),
+            ..PyltarkaPart::default()
+        },
     }
 }
 
@@ -120,5 +113,5 @@ pub fn pyltarka_read_fixed(
 pub fn pyltarka_free_count(table: &[u8], s: PyltarkaSettings) -> PyltarkaCounted
     ensures { result ≡ counted_in (free_count (settings_of s) table.now) }
 {
-    counted_in(table::free_count(table, settings_of(s)))
+    table::free_count(table, s.into()).into()
 }

@@ -1,5 +1,6 @@
 // The calls of the station as C functions: `./library` writes them as target/staticlib/libstation.a, and include/pyltarka.h declares them.
-// Each is the function of the crate station of its name, under the same contract: a library that other crates stand on exports nothing.
+// Each is the function of the crate station of its name, under the same contract and in the same form, C's: a library that other crates stand
+// on exports nothing.
 // A slice is a pointer and a length; a null pointer with length 0 is an empty one.
 #![tactic(auto)]
 

@@ -5,10 +5,10 @@ use mathlib.Core.Bool.{Bool, false}
 use mathlib.Core.List.{List, [], ◌++◌, head_d}
 use mathlib.Core.Option.{none}
 use Prim.Native.Nat.{ℕ}
+use lib.Dec.{eqb}
 use lib.ListN.{length}
 use Rattle.definition.specs.declared.Settings.{Settings}
 use Rattle.definition.specs.declared.Refusal.{Refusal}
-use Rattle.definition.specs.declared.Written.{Written}
 use Rattle.definition.specs.Tests.{number_of, first}
 use Rattle.definition.specs.Slots.{view, store}
 use Rattle.definition.specs.FreeList.{free_list}
@@ -21,8 +21,7 @@ use Rattle.laws.proofs.Passed.{opened}
 use Rattle.writes.specs.Steps.{clear_stores}
 use Rattle.writes.specs.Ready.{Fit, Writable, Freeable}
 use Rattle.writes.proofs.Accepted.{fit, ready_insert, ready_replace, freeing_remove, remove_stores, free_of, filled_of}
-use Rattle.checks.specs.declared.writing.Fitted.{Fitted}
-use Rattle.checks.specs.Stages.{TestedIs, FittedIs, insert_tests, remove_tests, chain_of, new_parts}
+use Rattle.checks.specs.Stages.{insert_tests, replace_tests, remove_tests, chain_of, new_parts}
 use Rattle.table.proofs.Outcomes.{refuses, accepts_to}
 
 -- ---- a value written
@@ -38,11 +37,11 @@ module _ (s : Settings) (key content t : List ℕ) where
   abbrev written : Bool → List ℕ → List ℕ
   written mark old = store s.size t (effect s mark (length content) (pieces s (prefix s key ++ content)) old (free_of s t) (filled_of s t))
 
-  pub insert_refused : (mark : Bool) (r : Refusal) → TestedIs (Written.Refused r) (insert_tests s key content t) → (refusal (number_of r), t) ≡ insert s key content mark t
+  pub insert_refused : (mark : Bool) (r : Refusal) → first (insert_tests s key content t) ≡ number_of r → (refusal (number_of r), t) ≡ insert s key content mark t
   unfolding insert
   insert_refused mark r e = refuses _ _ _ _ e (number_some r)
 
-  module _ (e : TestedIs Written.Accepted (insert_tests s key content t)) where
+  module _ (e : first (insert_tests s key content t) ≡ 0) where
     pub insert_starts : Writable s false key content t [] (free_of s t) 0
     insert_starts =
         let o = first_both (table_tests s (view s.size t) (capacity s t)) _ e in
@@ -57,32 +56,32 @@ module _ (s : Settings) (key content t : List ℕ) where
     insert_done mark u h w = accepts_to _ _ (ap₂ (λ (n : ℕ) (b : List ℕ). (at n, b)) w.1 w.0) e
 
   module _ (h : ℕ) where
-    pub replace_refused : (mark : Bool) (r : Refusal) → FittedIs (Fitted.Refused r) s key content h t → (refusal (number_of r), t) ≡ replace s key content mark h t
+    pub replace_refused : (mark : Bool) (r : Refusal) → first (replace_tests s key content h t) ≡ number_of r → (refusal (number_of r), t) ≡ replace s key content mark h t
     unfolding replace
     replace_refused mark r e = refuses _ _ _ _ e (number_some r)
 
-    module _ (same : Bool) (e : FittedIs (Fitted.Same same) s key content h t) where
-      pub replace_starts : Writable s same key content t (chain_of s t h) (free_of s t) h
-      replace_starts =
-          let o = first_both (table_tests s (view s.size t) (capacity s t)) _ e.0 in
+    module _ (e : first (replace_tests s key content h t) ≡ 0) where
+      pub replace_starts : (same : Bool) → same ≡ eqb (new_parts s key content) (length (chain_of s t h)) → Writable s same key content t (chain_of s t h) (free_of s t) h
+      replace_starts same stays =
+          let o = first_both (table_tests s (view s.size t) (capacity s t)) _ e in
           let v = first_both (value_tests s key content) _ o.1 in
           let w = first_both (chain_tests s (view s.size t) h none) _ v.1 in
           let l = first_pass (free_list_test (free_list (view s.size t))) _ w.1 in
           let f = value_fits o.0 v.0 in
-          record { keyed = f.0; fit = f.1; ready = ready_replace s t o.0 l.0 _ refl h w.0 same _ (sym (first_one _) ∙ l.1) e.1 }
+          record { keyed = f.0; fit = f.1; ready = ready_replace s t o.0 l.0 _ refl h w.0 same _ (sym (first_one _) ∙ l.1) stays }
 
       pub replace_done : (mark : Bool) (u : List ℕ) → u ≡ written mark (chain_of s t h) → (accepted, u) ≡ replace s key content mark h t
       unfolding replace
-      replace_done mark u w = accepts_to _ _ (ap (λ (b : List ℕ). (accepted, b)) w) e.0
+      replace_done mark u w = accepts_to _ _ (ap (λ (b : List ℕ). (accepted, b)) w) e
 
 -- ---- a chain freed
 
 module _ (s : Settings) (h : ℕ) (t : List ℕ) where
-  pub remove_refused : (r : Refusal) → TestedIs (Written.Refused r) (remove_tests s h t) → (refusal (number_of r), t) ≡ remove s h t
+  pub remove_refused : (r : Refusal) → first (remove_tests s h t) ≡ number_of r → (refusal (number_of r), t) ≡ remove s h t
   unfolding remove
   remove_refused r e = refuses _ _ _ _ e (number_some r)
 
-  module _ (e : TestedIs Written.Accepted (remove_tests s h t)) where
+  module _ (e : first (remove_tests s h t) ≡ 0) where
     -- the tests of the table, of the chain and of the free list, each passed
     passes : (first (table_tests s (view s.size t) (capacity s t)) ≡ 0) × (first (chain_tests s (view s.size t) h none) ≡ 0) × (free_list_test (free_list (view s.size t)) ≡ 0)
     passes =

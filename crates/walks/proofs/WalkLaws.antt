@@ -1,5 +1,7 @@
 -- The walk of later parts counts parts and bytes: after n parts that hold k bytes, at slot `at`, what is still to be walked gives the
 -- same fault, parts and bytes as the whole walk (`Tallied`); each way out and the turn keep it.
+use Rattle.std.specs.Prelude.{Ok}
+use mathlib.Core.Logic.{◌≢◌}
 use mathlib.Core.Path.{◌≡◌, refl, sym, ap, ap₂, ◌∙◌, subst}
 use mathlib.Core.Bool.{Bool, true, false, ◌||◌}
 use mathlib.Core.List.{List, [], ◌∷◌}
@@ -21,7 +23,6 @@ use Rattle.laws.proofs.Lists.{length_part}
 use Rattle.laws.proofs.Views.{apart}
 use Rattle.laws.proofs.Turns.{last_small, part_limit, part_unlinked, part_above, part_at}
 use Rattle.laws.proofs.Chains.{RestAt, rest_walk}
-use Rattle.walks.specs.declared.Walked.{Walked}
 use Rattle.walks.specs.Met.{RestIs}
 
 -- ---- what a look at a later part says
@@ -46,8 +47,8 @@ says s mark after b = go (which (is_free b || is_head b)) (which (is_continuatio
     go (is_no y) (is_no c) = subst (Says s b) (sym (cond_no (is_free b || is_head b) _ _ y ∙ cond_no (is_continuation b) _ _ c)) (judged (last_fault s mark after b) refl)
 
 -- no part holds more than a slot
-pub held_most : (s : Settings) (mark after : Bool) (b : List ℕ) (k : PartKind) (m : ℕ) → part k m ≡ later_parse s mark after b → m ≤ s.size
-held_most s mark after b k m e = go k m (subst (Says s b) (sym e) (says s mark after b))
+pub held_most : (s : Settings) (b : List ℕ) (k : PartKind) (m : ℕ) → ((mark after : Bool) → part k m ≡ later_parse s mark after b) → m ≤ s.size
+held_most s b k m e = go k m (subst (Says s b) (sym (e true true)) (says s true true b))
   where
     go : (k : PartKind) (m : ℕ) → Says s b (part k m) → m ≤ s.size
     go (Head x) m h = absurd h
@@ -73,12 +74,10 @@ tallied f n k (suc m) l = fault (suc m)
 pub tally : View → ℕ → ℕ → Walk → Tally
 tally f n k w = tallied f n k w.fault w.slots
 
--- the walk's state: what is left comes to what the whole comes to
-pub record Tallied (s : Settings) (f : View) (F start : ℕ) (mark : Bool) (at n k : ℕ) : Type 0 where
-  pub is : tally f n k (parts_from s f F mark (eqb n 0) (F - 2 - n) at) ≡ tally f 0 0 (parts_from s f F mark true (F - 2) start)
-
-pub start : (s : Settings) (f : View) (F : ℕ) (mark : Bool) (a : ℕ) → Tallied s f F a mark a 0 0
-start s f F mark a = let e : F - 2 - 0 ≡ F - 2 = omega arith in record { is = rw e refl }
+-- the walk's state: the bytes so far fit the parts so far, and what is left comes to what the whole comes to
+pub record Tallied (s : Settings) (f : View) (F start at n k : ℕ) : Type 0 where
+  pub few : k ≤ n * s.size
+  pub is : (mark : Bool) → tally f n k (parts_from s f F mark (eqb n 0) (F - 2 - n) at) ≡ tally f 0 0 (parts_from s f F mark true (F - 2) start)
 
 -- a fault is the whole walk's fault, an end its end
 is_fault : (f : View) (m j : ℕ) (l : List ℕ) → fault m ≡ tallied f 0 0 j l → j ≡ m
@@ -124,63 +123,69 @@ some_slot s f F mark after n a e = go (parts_from s f F mark after n a).slots (r
     go [] r = absurd r
     go (x ∷ l) r = omega arith
 
-module _ (s : Settings) (f : View) (F a : ℕ) (mark : Bool) (at n k : ℕ) (c : Tallied s f F a mark at n k) where
+module _ {s : Settings} {f : View} {F a at n k : ℕ} (c : Tallied s f F a at n k) where
   -- the walk stops with this refusal
-  stops : (r : Refusal) → parts_from s f F mark (eqb n 0) (F - 2 - n) at ≡ stopped (number_of r) → RestIs (Walked.Refused r) f (parts_from s f F mark true (F - 2) a)
+  stops : (mark : Bool) (m : ℕ) → 0 < m → parts_from s f F mark (eqb n 0) (F - 2 - n) at ≡ stopped m → (parts_from s f F mark true (F - 2) a).fault ≡ m
   unfolding tally
-  stops r e = is_fault f (number_of r) (parts_from s f F mark true (F - 2) a).fault _ (stopped_tally f n k (number_of r) (number_some r) ∙ sym (ap (tally f n k) e) ∙ c.is)
+  stops mark m h e = is_fault f m (parts_from s f F mark true (F - 2) a).fault _ (stopped_tally f n k m h ∙ sym (ap (tally f n k) e) ∙ c.is mark)
 
   -- FILLED - 1 parts with the head, and no last part
-  pub limit : F - 2 ≤ n → RestIs (Walked.Refused Refusal.Chain) f (parts_from s f F mark true (F - 2) a)
-  limit h = let z : F - 2 - n ≡ 0 = omega arith in stops Refusal.Chain (rw z (part_limit s f F mark (eqb n 0) at))
+  pub limit : F - 2 ≤ n → (mark : Bool) → (parts_from s f F mark true (F - 2) a).fault ≡ 10
+  limit h mark = let z : F - 2 - n ≡ 0 = omega arith in stops mark 10 (omega arith) (rw z (part_limit s f F mark (eqb n 0) at))
 
   module _ (more : n < F - 2) where
     step : F - 2 - n ≡ suc (F - 2 - (n + 1))
     step = omega arith
 
     -- a link 0 or not below FILLED
-    pub unlinked : at ≡ 0 → RestIs (Walked.Refused Refusal.Chain) f (parts_from s f F mark true (F - 2) a)
-    unlinked e = stops Refusal.Chain (rw step (part_unlinked s f F mark (eqb n 0) (F - 2 - (n + 1)) at e))
+    pub unlinked : at ≡ 0 → (mark : Bool) → (parts_from s f F mark true (F - 2) a).fault ≡ 10
+    unlinked e mark = stops mark 10 (omega arith) (rw step (part_unlinked s f F mark (eqb n 0) (F - 2 - (n + 1)) at e))
 
-    pub above : F ≤ at → RestIs (Walked.Refused Refusal.Chain) f (parts_from s f F mark true (F - 2) a)
-    above h = stops Refusal.Chain (rw step (part_above s f F mark (eqb n 0) (F - 2 - (n + 1)) at h))
+    pub above : F ≤ at → (mark : Bool) → (parts_from s f F mark true (F - 2) a).fault ≡ 10
+    above h mark = stops mark 10 (omega arith) (rw step (part_above s f F mark (eqb n 0) (F - 2 - (n + 1)) at h))
 
-    module _ (p : 0 < at) (q : at < F) where
-      looked : (x : Parse) → x ≡ later_parse s mark (eqb n 0) (f at) → parts_from s f F mark (eqb n 0) (F - 2 - n) at ≡ onward at x (parts_from s f F mark false (F - 2 - (n + 1)) (link_of (f at)))
-      looked x e =
-          rw step (part_at s f F mark (eqb n 0) (F - 2 - (n + 1)) at p q)
+    module _ (nz : at ≢ 0) (q : at < F) where
+      looked : (mark : Bool) (x : Parse) → x ≡ later_parse s mark (eqb n 0) (f at)
+          → parts_from s f F mark (eqb n 0) (F - 2 - n) at ≡ onward at x (parts_from s f F mark false (F - 2 - (n + 1)) (link_of (f at)))
+      looked mark x e =
+          rw step (part_at s f F mark (eqb n 0) (F - 2 - (n + 1)) at (omega arith) q)
           ∙ ap (λ (y : Parse). onward at y (parts_from s f F mark false (F - 2 - (n + 1)) (link_of (f at)))) (sym e)
 
       -- the part is refused
-      pub bad_part : (r : Refusal) → refused (number_of r) ≡ later_parse s mark (eqb n 0) (f at) → RestIs (Walked.Refused r) f (parts_from s f F mark true (F - 2) a)
+      pub bad_part : (r : Refusal) → ((mark after : Bool) → refused (number_of r) ≡ later_parse s mark after (f at))
+          → (mark : Bool) → (parts_from s f F mark true (F - 2) a).fault ≡ number_of r
       unfolding onward
-      bad_part r e = stops r (looked (refused (number_of r)) e)
+      bad_part r e mark = stops mark (number_of r) (number_some r) (looked mark (refused (number_of r)) (e mark (eqb n 0)))
 
-      -- a head is none
-      pub no_head : {X : Type 0} (x m : ℕ) → part (Head x) m ≡ later_parse s mark (eqb n 0) (f at) → X
-      no_head x m e = absurd (subst (Says s (f at)) (sym e) (says s mark (eqb n 0) (f at)))
+      module _ (kind : PartKind) (m : ℕ) (e : (mark after : Bool) → part kind m ≡ later_parse s mark after (f at)) where
+        -- a head is none
+        pub no_head : (x : ℕ) → kind ≡ Head x → {X : Type 0} → X
+        no_head x h = absurd (subst (Says s (f at)) (sym (e true true) ∙ ap (λ (k : PartKind). part k m) h) (says s true true (f at)))
 
-      -- a last part ends the walk
-      pub last : (x m : ℕ) → 2 ≤ s.size → length (f at) ≡ s.size → part (Last x) m ≡ later_parse s mark (eqb n 0) (f at)
-          → RestIs (Walked.Chain (record { parts = n + 1; bytes = k + m })) f (parts_from s f F mark true (F - 2) a)
-      unfolding onward is_last tally tallied rest_body sized_body
-      last x m lo w e =
-          let t = subst (Says s (f at)) (sym e) (says s mark (eqb n 0) (f at)) in
-          let l : length (rest_body f (at ∷ [])) ≡ m = length_part (f at) 2 (size_of (f at)) (omega (arith, t.1)) ∙ sym t.0 in
-          is_chain f (n + 1) (k + m) _ _ (ap (λ (j : ℕ). chain (n + 1) (k + j)) (sym l) ∙ sym (ap (tally f n k) (looked (part (Last x) m) e)) ∙ c.is)
+        -- a last part ends the walk
+        pub last : (x : ℕ) → kind ≡ Last x → 2 ≤ s.size → length (f at) ≡ s.size
+            → (mark : Bool) → RestIs (Ok (record { parts = n + 1; bytes = k + m })) f (parts_from s f F mark true (F - 2) a)
+        unfolding onward is_last tally tallied rest_body sized_body
+        last x h lo w mark =
+            let p = sym (ap (λ (k : PartKind). part k m) h) ∙ e mark (eqb n 0) in
+            let t = subst (Says s (f at)) (sym p) (says s mark (eqb n 0) (f at)) in
+            let l : length (rest_body f (at ∷ [])) ≡ m = length_part (f at) 2 (size_of (f at)) (omega (arith, t.1)) ∙ sym t.0 in
+            is_chain f (n + 1) (k + m) _ _ (ap (λ (j : ℕ). chain (n + 1) (k + j)) (sym l) ∙ sym (ap (tally f n k) (looked mark (part (Last x) m) p)) ∙ c.is mark)
 
-      -- a continuation: on along its link
-      pub turn : (next m : ℕ) → length (f at) ≡ s.size → part (Continuation next) m ≡ later_parse s mark (eqb n 0) (f at) → Tallied s f F a mark next (n + 1) (k + m)
-      unfolding onward is_last
-      turn next m w e =
-          let t = subst (Says s (f at)) (sym e) (says s mark (eqb n 0) (f at)) in
-          let b : m ≡ length (f at) - 10 = t.1 ∙ ap (λ (j : ℕ). j - 10) (sym w) in
-          let rest = parts_from s f F mark false (F - 2 - (n + 1)) (link_of (f at)) in
-          record {
-            is =
-                ap (λ (y : Bool). tally f (n + 1) (k + m) (parts_from s f F mark y (F - 2 - (n + 1)) next)) (ne_eqb (n + 1) 0 (omega arith))
-                ∙ ap₂ (λ (i j : ℕ). tally f (n + 1) (k + j) (parts_from s f F mark false (F - 2 - (n + 1)) i)) t.0 b
-                ∙ sym (passed_tally f n k at rest (some_slot s f F mark false (F - 2 - (n + 1)) (link_of (f at))))
-                ∙ sym (ap (tally f n k) (looked (part (Continuation next) m) e))
-                ∙ c.is;
-          }
+        -- a continuation: on along its link
+        pub turn : (next : ℕ) → kind ≡ Continuation next → length (f at) ≡ s.size → Tallied s f F a next (n + 1) (k + m)
+        unfolding onward is_last
+        turn next h w =
+            let p = λ (mark : Bool). sym (ap (λ (k : PartKind). part k m) h) ∙ e mark (eqb n 0) in
+            let t = subst (Says s (f at)) (sym (p true)) (says s true (eqb n 0) (f at)) in
+            let b : m ≡ length (f at) - 10 = t.1 ∙ ap (λ (j : ℕ). j - 10) (sym w) in
+            let rest = λ (mark : Bool). parts_from s f F mark false (F - 2 - (n + 1)) (link_of (f at)) in
+            record {
+              few = held_more s.size n k m c.few (omega (arith, t.1));
+              is = λ mark.
+                  ap (λ (y : Bool). tally f (n + 1) (k + m) (parts_from s f F mark y (F - 2 - (n + 1)) next)) (ne_eqb (n + 1) 0 (omega arith))
+                  ∙ ap₂ (λ (i j : ℕ). tally f (n + 1) (k + j) (parts_from s f F mark false (F - 2 - (n + 1)) i)) t.0 b
+                  ∙ sym (passed_tally f n k at (rest mark) (some_slot s f F mark false (F - 2 - (n + 1)) (link_of (f at))))
+                  ∙ sym (ap (tally f n k) (looked mark (part (Continuation next) m) (p mark)))
+                  ∙ c.is mark;
+            }

@@ -1,34 +1,39 @@
 // The walk of the free list, as the Rust's check_free_refs; here it also tests each member's mark, and it always ends.
-ghost use Rattle.std.specs.Prelude.{◌≡◌, false, ◌-◌, ◌*◌, ◌≤◌, ◌<◌, length};
-ghost use Rattle.definition.specs.Settings.{bad_settings};
+ghost use Rattle.std.specs.Prelude.{◌-◌, ◌*◌, ◌≤◌, ◌<◌, length};
 ghost use Rattle.definition.specs.Slots.{view};
 ghost use Rattle.definition.specs.FreeList.{free_from};
 ghost use Rattle.walks.specs.Met.{FreeIs};
 
-use definition::{FreeCount, Header, Refusal, Settings};
-use reader::{is_free, read_next};
+use definition::{Header, Refusal};
+use reader::{Slot, is_free, read_next};
+use slots::layout::Layout;
 
 // The members of the free list, or refusal 11: a member not below FILLED or not marked free, or no end after FILLED - 1 members.
-pub fn check_free_refs(table: &[u8], s: Settings, h: Header) -> FreeCount
-    requires { (bad_settings s ≡ false) × (h.filled * s.size ≤ length table.now) × (0 < h.filled) }
-    ensures { FreeIs result (free_from (view s.size table.now) h.filled (h.filled - 1) h.removed) }
+// It is promised of any header, and a `Table` has its own: so the three stay parameters.
+#[tactic(auto, using(crate::proofs::FreeLaws::free_walk))]
+pub fn check_free_refs(table: &[u8], layout: Layout, h: Header) -> Result<u64, Refusal>
+    requires { (h.filled * layout.settings.size ≤ length table.now) × (0 < h.filled) }
+    ensures { FreeIs result (free_from (view layout.settings.size table.now) h.filled (h.filled - 1) h.removed) }
 {
+    let most = h.filled - 1;
+    // 0 ends it, as in the layout.
     let mut at = h.removed;
-    let mut n: u64 = 0;
-    while at != 0 {
-        if n == h.filled - 1 {
-            return FreeCount::Refused(Refusal::FreeList);
+    for members in 0..most {
+        if at == 0 {
+            return Ok(members);
         }
         if at >= h.filled {
-            return FreeCount::Refused(Refusal::FreeList);
+            return Err(Refusal::FreeList);
         }
-        let a = (at as usize) * s.size;
-        let z = a + s.size;
-        if !is_free(&table[a..z]) {
-            return FreeCount::Refused(Refusal::FreeList);
+        let slot = Slot::of(table, layout, at);
+        if !is_free(slot.bytes) {
+            return Err(Refusal::FreeList);
         }
-        at = read_next(&table[a..z]);
-        n += 1;
+        at = read_next(slot.bytes);
     }
-    FreeCount::Members(n)
+    if at == 0 {
+        Ok(most)
+    } else {
+        Err(Refusal::FreeList)
+    }
 }

@@ -4,18 +4,9 @@
 pub mod chain;
 pub mod free_list;
 
-use definition::Refusal;
-
 // How far a chain reaches: its parts, and the bytes of prefix and content that they hold.
-#[derive(Clone, Copy)]
+#[derive(Clone, Copy, Debug, PartialEq, Eq)]
 pub struct Extent {
     pub parts: u64,
     pub bytes: usize,
-}
-
-// What the walk of a chain met.
-#[derive(Clone, Copy)]
-pub enum Walked {
-    Chain(Extent),
-    Refused(Refusal),
 }

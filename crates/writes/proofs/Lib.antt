@@ -4,4 +4,3 @@ pub mod Pieces
 pub mod Clearing
 pub mod Going
 pub mod Accepted
-pub mod Starting

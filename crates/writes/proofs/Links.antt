@@ -4,14 +4,12 @@ use mathlib.Core.Path.{◌≡◌, refl, ◌∙◌}
 use mathlib.Core.Logic.{◌≢◌}
 use mathlib.Core.Bool.{true, false}
 use mathlib.Core.List.{List, [], ◌∷◌}
-use Prim.Native.Nat.{ℕ, ◌+◌, ◌*◌, ◌≤◌, ◌<◌}
-use native.Mathlib.Nat.{mul-le-mul_left}
+use Prim.Native.Nat.{ℕ, ◌+◌, ◌<◌}
 use native.Mathlib.Omega.{arith}
 use lib.Dec.{eqb}
 use borrow.Author.Tests.{eq-eqb, ne_eqb}
 use Rattle.definition.specs.declared.Settings.{Settings}
 use Rattle.definition.specs.declared.Header.{Header}
-use Rattle.definition.specs.Settings.{least_size}
 use Rattle.definition.specs.Slots.{View, is_head, is_continuation, head_link, link_of}
 use Rattle.laws.proofs.Conditions.{cond_yes, cond_no}
 use Rattle.laws.proofs.Linked.{Linked}
@@ -43,23 +41,19 @@ module _ (s : Settings) (b : List ℕ) where
 -- ---- the slot taken
 
 module _ (s : Settings) (f : View) (at : ℕ) (h : Header) where
-  pub taken_old : at ≢ 0 → taken_from s f at h ≡ record { slot = at; rest = next_part s (f at); header = h }
+  taken_old : at ≢ 0 → taken_from s f at h ≡ record { slot = at; rest = next_part s (f at); header = h }
   unfolding taken_from
   taken_old z = cond_no (eqb at 0) _ _ (ne_eqb at 0 z)
 
-  pub taken_free_lem : at ≡ 0 → h.removed ≢ 0
+  taken_free_lem : at ≡ 0 → h.removed ≢ 0
       → taken_from s f at h ≡ record { slot = h.removed; rest = 0; header = record { removed = link_of (f h.removed); filled = h.filled } }
   unfolding taken_from
   taken_free_lem y z = cond_yes (eqb at 0) _ _ (eq-eqb at 0 y) ∙ cond_no (eqb h.removed 0) _ _ (ne_eqb h.removed 0 z)
 
-  pub taken_unused : at ≡ 0 → h.removed ≡ 0
+  taken_unused : at ≡ 0 → h.removed ≡ 0
       → taken_from s f at h ≡ record { slot = h.filled; rest = 0; header = record { removed = 0; filled = h.filled + 1 } }
   unfolding taken_from
   taken_unused y z = cond_yes (eqb at 0) _ _ (eq-eqb at 0 y) ∙ cond_yes (eqb h.removed 0) _ _ (eq-eqb h.removed 0 z)
-
--- FILLED can rise: a table has fewer slots than bytes
-pub filled_rises : (F E n : ℕ) → least_size ≤ E → F * E ≤ n → F * least_size ≤ n
-filled_rises F E n h g = omega (arith, mul-le-mul_left F h)
 
 -- ---- and the lists
 

@@ -1,42 +1,22 @@
-use mathlib.Core.Path.{subst}
 use native.Mathlib.Omega.{arith}
-use Rattle.laws.proofs.Starts.{filled_pos}
-use Rattle.laws.proofs.Sizes.{sizes}
-use Rattle.checks.proofs.RoomLaws.{list_is, list_refused, room_refused, room_good, filled_within}
-use Rattle.walks.specs.Met.{FreeIs}
-use Rattle.definition.specs.declared.FreeCount.{FreeCount}
-use Rattle.definition.specs.FreeList.{free_list}
-use Rattle.checks.proofs.CheckLaws.{filled_inside}
-use Rattle.definition.specs.Slots.{view}
+use Rattle.checks.proofs.CheckLaws.{passed_on}
+use Rattle.checks.proofs.RoomLaws.{some_filled, filled_within, list_is, list_refused, room_refused, room_good}
 use Rattle.checks.proofs.room.check_room.Goals as goal
 
 pub check_free_refs-requires : goal.check_free_refs-requires
-check_free_refs-requires c =
-    let t = filled_inside c.args.s c.args.table.now c.args.h c.requires in
-    (t.0, t.1, omega (arith, t.2, filled_pos (view c.args.s.size c.args.table.now)))
+check_free_refs-requires c = (c.args.table.now.fits, some_filled c.args.table.now)
 
-pub nonzero_div-capacity : goal.nonzero_div-capacity
-nonzero_div-capacity c =
-    let z = sizes c.args.s (filled_inside c.args.s c.args.table.now c.args.h c.requires).0 in omega arith
+pub returns-in_err-members : goal.returns-in_err-members
+returns-in_err-members c =
+    rw (passed_on _ _ c.from_residual.ensures.1) (list_refused c.args.table.now _ _ (rw (list_is c.args.table.now) at c.in_err-members.ensures))
 
 pub overflow_sub-capacity : goal.overflow_sub-capacity
-overflow_sub-capacity c =
-    filled_within c.args.s c.args.table.now c.args.h c.requires
+overflow_sub-capacity c = omega (arith, filled_within c.args.table.now, c.capacity.ensures)
 
 pub returns-then-room_bad : goal.returns-then-room_bad
 returns-then-room_bad c =
-    let Frees : FreeCount → Type 0 = λ r. FreeIs r (free_list (view c.args.s.size c.args.table.now)) in
-    let frees : Frees c.check_free_refs.result = subst (FreeIs c.check_free_refs.result) (list_is c.args.s c.args.table.now c.args.h c.requires.1) c.check_free_refs.ensures in
-    room_refused _ _ _ _ c.requires _ (subst Frees c.in-Members.is frees) _ c.room_bad.ensures c.if-room_bad.true
+    room_refused c.args.table.now _ _ (rw (list_is c.args.table.now) at c.in_ok-members.ensures) _ c.capacity.ensures _ c.room_bad.ensures c.if-room_bad.true
 
-pub returns-in-Refused : goal.returns-in-Refused
-returns-in-Refused c =
-    let Frees : FreeCount → Type 0 = λ r. FreeIs r (free_list (view c.args.s.size c.args.table.now)) in
-    let frees : Frees c.check_free_refs.result = subst (FreeIs c.check_free_refs.result) (list_is c.args.s c.args.table.now c.args.h c.requires.1) c.check_free_refs.ensures in
-    list_refused _ _ _ c.in-Refused.r (subst Frees c.in-Refused.is frees)
-
-pub returns-else-room_bad : goal.returns-else-room_bad
-returns-else-room_bad c =
-    let Frees : FreeCount → Type 0 = λ r. FreeIs r (free_list (view c.args.s.size c.args.table.now)) in
-    let frees : Frees c.check_free_refs.result = subst (FreeIs c.check_free_refs.result) (list_is c.args.s c.args.table.now c.args.h c.requires.1) c.check_free_refs.ensures in
-    room_good _ _ _ _ c.requires _ (subst Frees c.in-Members.is frees) _ c.room_bad.ensures c.if-room_bad.false
+pub returns : goal.returns
+returns c =
+    room_good c.args.table.now _ _ (rw (list_is c.args.table.now) at c.in_ok-members.ensures) _ c.capacity.ensures _ c.room_bad.ensures c.if-room_bad.false tt

@@ -1,27 +1,12 @@
-use native.Mathlib.Omega.{arith}
-use lib.ListN.{length}
-use mathlib.Core.Path.{sym, ap, ◌∙◌}
-use Prim.Native.Nat.{ℕ, ◌+◌}
-use Rattle.checks.proofs.ValueLaws.{key_wrong, value_wrong, value_good}
-use Rattle.laws.proofs.Sizes.{sizes, prefix_most}
+use mathlib.Core.Path.{sym, ◌∙◌}
+use Rattle.std.proofs.Common.{arith}
+use Rattle.std.proofs.lemmas.Grind.{common_steps}
+use Rattle.definition.specs.Tests.{refuse, first}
+use Rattle.definition.specs.Calls.{key_test, value_test}
+use Rattle.checks.proofs.ValueLaws.{body_length}
 use Rattle.checks.proofs.value.check_value.Goals as goal
 
-pub returns-then-key_bad : goal.returns-then-key_bad
-returns-then-key_bad c =
-    key_wrong _ _ _ (sym c.key_bad.ensures ∙ c.if-key_bad.true)
-
-pub overflow_add-n : goal.overflow_add-n
-overflow_add-n c =
-    omega (arith, c.prefix_len.ensures, prefix_most c.args.s)
-
-pub value_bad-requires : goal.value_bad-requires
-value_bad-requires c =
-    let z = sizes c.args.s c.requires in omega arith
-
-pub returns-then-value_bad : goal.returns-then-value_bad
-returns-then-value_bad c =
-    value_wrong _ _ _ (sym c.key_bad.ensures ∙ c.if-key_bad.false) _ (ap (λ (k : ℕ). k + length c.args.content.now) c.prefix_len.ensures) _ c.value_bad.ensures c.if-value_bad.true
-
 pub returns : goal.returns
+unfolding key_test value_test refuse first
 returns c =
-    value_good _ _ _ (sym c.key_bad.ensures ∙ c.if-key_bad.false) _ (ap (λ (k : ℕ). k + length c.args.content.now) c.prefix_len.ensures) _ c.value_bad.ensures c.if-value_bad.false _ c.parts_needed.ensures
+    (grind (arith, common_steps), c.parts_needed.ensures _ (body_length c.args.layout.settings _ _ (sym c.key_bad.ensures ∙ c.if-key_bad.false) ∙ cc))

@@ -1,28 +1,16 @@
-use mathlib.Core.Path.{subst}
-use native.Mathlib.Omega.{arith}
-use Rattle.definition.specs.Slots.{view}
-use Rattle.laws.proofs.Starts.{filled_pos}
-use Rattle.checks.specs.declared.Opened.{Opened}
-use Rattle.checks.specs.Stages.{OpenedIs}
-use Rattle.checks.proofs.CheckLaws.{filled_inside}
+use Rattle.checks.proofs.CheckLaws.{passed_on}
+use Rattle.checks.proofs.RoomLaws.{some_filled, list_is}
 use Rattle.table.proofs.CountLaws.{free_closed, free_decides}
 use Rattle.table.proofs.counting.free_count.Goals as goal
 
+pub returns-in_err-table : goal.returns-in_err-table
+returns-in_err-table c = rw (passed_on _ _ c.from_residual.ensures.1) (free_closed c.args.s _ _ c.in_err-table.ensures)
+
 pub check_free_refs-requires : goal.check_free_refs-requires
-check_free_refs-requires c =
-    let Opens : Opened → Type 0 = λ r. OpenedIs r c.args.s c.args.table.now in
-    let opened-is : Opens (Opened.Table c.in-Table.h) = subst Opens c.in-Table.is c.check_table.ensures in
-    let a = c.args in
-    let t = filled_inside a.s a.table.now _ opened-is in
-    (t.0, t.1, omega (arith, t.2, filled_pos (view a.s.size a.table.now)))
+check_free_refs-requires c = (c.in_ok-table.table.fits, some_filled c.in_ok-table.table)
 
-pub returns-in-Refused : goal.returns-in-Refused
-returns-in-Refused c =
-    let Opens : Opened → Type 0 = λ r. OpenedIs r c.args.s c.args.table.now in
-    free_closed _ _ c.in-Refused.r (subst Opens c.in-Refused.is c.check_table.ensures)
-
-pub returns-in-Table : goal.returns-in-Table
-returns-in-Table c =
-    let Opens : Opened → Type 0 = λ r. OpenedIs r c.args.s c.args.table.now in
-    let opened-is : Opens (Opened.Table c.in-Table.h) = subst Opens c.in-Table.is c.check_table.ensures in
-    free_decides _ _ _ opened-is c.check_free_refs.result c.check_free_refs.ensures
+pub returns : goal.returns
+returns c =
+    let o = c.in_ok-table.ensures in
+    let frees = rw (list_is c.in_ok-table.table, o.1, o.2) at c.check_free_refs.ensures in
+    free_decides c.args.s _ o.0 _ frees

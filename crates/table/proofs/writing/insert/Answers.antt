@@ -1,22 +1,18 @@
-use mathlib.Core.Path.{subst}
-use Rattle.definition.specs.declared.Written.{Written}
-use Rattle.checks.specs.Stages.{TestedIs, insert_tests}
+use Rattle.checks.proofs.CheckLaws.{passed_on}
 use Rattle.table.proofs.WriteLaws.{insert_refused, insert_starts, insert_done}
 use Rattle.table.proofs.writing.insert.Goals as goal
 
+pub returns-in_err-layout : goal.returns-in_err-layout
+returns-in_err-layout c = rw (passed_on _ _ c.from_residual.ensures.1) (insert_refused c.args.s _ _ _ _ _ c.in_err-layout.ensures)
+
 pub write_record-requires : goal.write_record-requires
 write_record-requires c =
-    let Tested : Written → Type 0 = λ r. let a = c.args in TestedIs r (insert_tests a.s a.key.now a.content.now a.table.now) in
-    let passed : Tested Written.Accepted = subst Tested c.in-Accepted.is c.check_insert.ensures in
-    (_, _, insert_starts _ _ _ _ passed)
+    let e = c.in_ok-layout.ensures in
+    let ready = rw (← e.1) at (insert_starts c.args.s _ _ _ e.0) in
+    (_, _, ready)
 
-pub returns-in-Refused : goal.returns-in-Refused
-returns-in-Refused c =
-    let Tested : Written → Type 0 = λ r. let a = c.args in TestedIs r (insert_tests a.s a.key.now a.content.now a.table.now) in
-    insert_refused _ _ _ _ _ c.in-Refused.r (subst Tested c.in-Refused.is c.check_insert.ensures)
-
-pub returns-in-Accepted : goal.returns-in-Accepted
-returns-in-Accepted c =
-    let Tested : Written → Type 0 = λ r. let a = c.args in TestedIs r (insert_tests a.s a.key.now a.content.now a.table.now) in
-    let passed : Tested Written.Accepted = subst Tested c.in-Accepted.is c.check_insert.ensures in
-    let p = passed in insert_done _ _ _ _ p _ _ _ (c.write_record.ensures _ _ (insert_starts _ _ _ _ p))
+pub returns : goal.returns
+returns c =
+    let e = c.in_ok-layout.ensures in
+    let w = rw e.1 at c.write_record.ensures in
+    insert_done c.args.s _ _ _ e.0 _ _ _ (w _ _ (insert_starts c.args.s _ _ _ e.0))

@@ -1,22 +1,18 @@
-use mathlib.Core.Path.{subst}
-use Rattle.definition.specs.declared.Written.{Written}
-use Rattle.checks.specs.Stages.{TestedIs, remove_tests}
+use Rattle.checks.proofs.CheckLaws.{passed_on}
 use Rattle.table.proofs.WriteLaws.{remove_refused, remove_starts, remove_done}
 use Rattle.table.proofs.writing.remove.Goals as goal
 
+pub returns-in_err-layout : goal.returns-in_err-layout
+returns-in_err-layout c = rw (passed_on _ _ c.from_residual.ensures.1) (remove_refused c.args.s _ _ _ c.in_err-layout.ensures)
+
 pub free_record-requires : goal.free_record-requires
 free_record-requires c =
-    let Tested : Written → Type 0 = λ r. let a = c.args in TestedIs r (remove_tests a.s a.slot a.table.now) in
-    let passed : Tested Written.Accepted = subst Tested c.in-Accepted.is c.check_remove.ensures in
-    (_, _, remove_starts _ _ _ passed)
+    let e = c.in_ok-layout.ensures in
+    let ready = rw (← e.1) at (remove_starts c.args.s _ _ e.0) in
+    (_, _, ready)
 
-pub returns-in-Refused : goal.returns-in-Refused
-returns-in-Refused c =
-    let Tested : Written → Type 0 = λ r. let a = c.args in TestedIs r (remove_tests a.s a.slot a.table.now) in
-    remove_refused _ _ _ c.in-Refused.r (subst Tested c.in-Refused.is c.check_remove.ensures)
-
-pub returns-in-Accepted : goal.returns-in-Accepted
-returns-in-Accepted c =
-    let Tested : Written → Type 0 = λ r. let a = c.args in TestedIs r (remove_tests a.s a.slot a.table.now) in
-    let passed : Tested Written.Accepted = subst Tested c.in-Accepted.is c.check_remove.ensures in
-    let p = passed in remove_done _ _ _ p _ (c.free_record.ensures _ _ (remove_starts _ _ _ p))
+pub returns : goal.returns
+returns c =
+    let e = c.in_ok-layout.ensures in
+    let w = rw e.1 at c.free_record.ensures in
+    remove_done c.args.s _ _ e.0 _ (w _ _ (remove_starts c.args.s _ _ e.0))

@@ -1,62 +1,42 @@
-use lib.ListN.{length}
-use native.Mathlib.Omega.{arith}
-use mathlib.Core.Path.{◌≡◌, sym, ap, ◌∙◌, subst}
-use Prim.Native.Nat.{ℕ, ◌+◌, ◌*◌, ◌≤◌, ◌<◌}
-use Rattle.laws.proofs.Heads.{slot_zero, slot_above}
+use mathlib.Core.List.{List}
+use mathlib.Core.Path.{◌≡◌, sym, ap, ap₂, ◌∙◌, subst}
+use Prim.Native.Nat.{ℕ, ◌<◌}
+use Rattle.std.proofs.lemmas.Result.{err_from_is_err_and}
+use Rattle.definition.specs.declared.Header.{Header}
+use Rattle.definition.specs.Chains.{Parse, head_parse}
+use Rattle.definition.specs.Slots.{view}
+use Rattle.laws.proofs.Passed.{slot_passed}
+use Rattle.slots.specs.Keys.{lent_key}
+use Rattle.slots.specs.declared.layout.Layout.{Layout}
 use Rattle.walks.proofs.ChainWalks.{slot_refused, head_refused, head_accepted, walk_decides}
-use Rattle.walks.specs.Met.{ChainIs}
-use Rattle.laws.proofs.Views.{within, part_view}
-use Rattle.definition.specs.Calls.{checked_key}
-use Rattle.definition.specs.Answers.{parse_of}
-use Rattle.definition.specs.Chains.{head_parse, walk, part}
-use Rattle.definition.specs.Slots.{view, filled}
 use Rattle.walks.proofs.chain.check_chain.Goals as goal
+use Rattle.walks.proofs.chain.check_chain.Goals.{In_ok-record_slot}
 
-pub returns-then-at-eq0 : goal.returns-then-at-eq0
-returns-then-at-eq0 c =
-    slot_refused _ _ _ _ (slot_zero _ _ c.if-at-eq0.true)
+-- the slot that was found is the table's
+found : (c : In_ok-record_slot) (p : Parse) → p ≡ head_parse c.in_ok-record_slot.field-0.layout.settings (lent_key c.args.key) 8 c.in_ok-record_slot.field-0.bytes.now
+    → let s = c.args.table.now.layout.settings in p ≡ head_parse s (lent_key c.args.key) 8 (view s.size c.args.table.now.bytes.now c.args.at)
+found c p e =
+    e ∙ ap₂ (λ (l : Layout) (b : List ℕ). head_parse l.settings (lent_key c.args.key) 8 b) c.in_ok-record_slot.ensures.2 c.in_ok-record_slot.ensures.1
 
-pub returns-then-at-filled : goal.returns-then-at-filled
-returns-then-at-filled c =
-    slot_refused _ _ _ _ (slot_above _ _ (subst (λ (n : ℕ). n ≤ c.args.at) c.requires.2 c.if-at-filled.true))
+pub returns-in_err-record_slot : goal.returns-in_err-record_slot
+returns-in_err-record_slot c =
+    let p = err_from_is_err_and c.from_residual.result c.from_residual.ensures.1 in
+    rw (p.1, p.2) (slot_refused _ _ _ _ c.in_err-record_slot.field-0.0 c.in_err-record_slot.ensures)
 
-pub overflow_mul-a : goal.overflow_mul-a
-overflow_mul-a c =
-    let inside : c.args.at * c.args.s.size + c.args.s.size ≤ length c.args.table.now = within _ _ c.args.filled _ c.if-at-filled.false c.requires.1 in
-    omega (arith, inside)
-
-pub overflow_add-z : goal.overflow_add-z
-overflow_add-z c =
-    let inside : c.args.at * c.args.s.size + c.args.s.size ≤ length c.args.table.now = within _ _ c.args.filled _ c.if-at-filled.false c.requires.1 in
-    omega (arith, inside)
-
-pub slice_bounds-parse_head-end : goal.slice_bounds-parse_head-end
-slice_bounds-parse_head-end c =
-    let inside : c.args.at * c.args.s.size + c.args.s.size ≤ length c.args.table.now = within _ _ c.args.filled _ c.if-at-filled.false c.requires.1 in
-    omega (arith, inside)
+pub returns-in_err-start : goal.returns-in_err-start
+returns-in_err-start c =
+    let p = err_from_is_err_and c.from_residual-in_err-start.result c.from_residual-in_err-start.ensures.1 in
+    rw (p.1, p.2)
+    (head_refused _ _ _ _ c.in_ok-record_slot.ensures.0 c.in_err-start.field-0.0
+    (found (goal.at.returns-in_err-start c).In_ok-record_slot _ c.in_err-start.ensures))
 
 pub walk_chain-requires : goal.walk_chain-requires
 walk_chain-requires c =
-    let below : c.args.at < filled (view c.args.s.size c.args.table.now) = subst (λ (n : ℕ). c.args.at < n) c.requires.2 c.if-at-filled.false in
-    let parsed : parse_of c.parse_head.result ≡ head_parse c.args.s (checked_key c.args.checked c.args.key.now) 8 (view c.args.s.size c.args.table.now c.args.at) = c.parse_head.ensures
-    ∙ ap (head_parse c.args.s (checked_key c.args.checked c.args.key.now) 8) (part_view c.args.s.size c.args.at c.args.table.now) in
-    let part-is : part c.in-Part.kind c.in-Part.n ≡ head_parse c.args.s (checked_key c.args.checked c.args.key.now) 8 (view c.args.s.size c.args.table.now c.args.at) = sym (ap parse_of c.in-Part.is) ∙ parsed in
-    let a = head_accepted _ _ _ _ c.if-at-eq0.false below _ _ part-is in
-    (c.requires.0, c.requires.1, omega (arith, c.if-at-eq0.false), c.if-at-filled.false, a.0, a.1)
+    let z = slot_passed _ _ c.in_ok-record_slot.ensures.0 in
+    let a = head_accepted _ _ _ _ c.in_ok-record_slot.ensures.0 _ _ (found (goal.at.walk_chain-requires c).In_ok-record_slot _ c.in_ok-start.ensures) in
+    (z.0, subst (λ (h : Header). c.args.at < h.filled) (sym c.args.table.now.own) z.1, a.0, a.1)
 
-pub returns-in-Refused : goal.returns-in-Refused
-returns-in-Refused c =
-    let below : c.args.at < filled (view c.args.s.size c.args.table.now) = subst (λ (n : ℕ). c.args.at < n) c.requires.2 c.if-at-filled.false in
-    let parsed : parse_of c.parse_head.result ≡ head_parse c.args.s (checked_key c.args.checked c.args.key.now) 8 (view c.args.s.size c.args.table.now c.args.at) = c.parse_head.ensures
-    ∙ ap (head_parse c.args.s (checked_key c.args.checked c.args.key.now) 8) (part_view c.args.s.size c.args.at c.args.table.now) in
-    head_refused _ _ _ _ c.if-at-eq0.false below c.in-Refused.r (sym (ap parse_of c.in-Refused.is) ∙ parsed)
-
-pub returns-in-Part : goal.returns-in-Part
-returns-in-Part c =
-    let below : c.args.at < filled (view c.args.s.size c.args.table.now) = subst (λ (n : ℕ). c.args.at < n) c.requires.2 c.if-at-filled.false in
-    let parsed : parse_of c.parse_head.result ≡ head_parse c.args.s (checked_key c.args.checked c.args.key.now) 8 (view c.args.s.size c.args.table.now c.args.at) = c.parse_head.ensures
-    ∙ ap (head_parse c.args.s (checked_key c.args.checked c.args.key.now) 8) (part_view c.args.s.size c.args.at c.args.table.now) in
-    let part-is : part c.in-Part.kind c.in-Part.n ≡ head_parse c.args.s (checked_key c.args.checked c.args.key.now) 8 (view c.args.s.size c.args.table.now c.args.at) = sym (ap parse_of c.in-Part.is) ∙ parsed in
-    let A = c.args in
-    walk_decides _ _ _ _ c.if-at-eq0.false below _ _ part-is c.walk_chain.result
-    (subst (λ (n : ℕ). ChainIs c.walk_chain.result A.s (view A.s.size A.table.now) (walk A.s (view A.s.size A.table.now) n A.at)) c.requires.2 c.walk_chain.ensures)
+pub returns : goal.returns
+returns c =
+    walk_decides _ _ _ _ c.in_ok-record_slot.ensures.0 _ _ (found (goal.at.returns c).In_ok-record_slot _ c.in_ok-start.ensures) _ (ap (λ (h : Header). h.filled) c.args.table.now.own) c.walk_chain.result
+    c.walk_chain.ensures

@@ -1,80 +1,66 @@
-use lib.Dec.{eqb}
-use lib.ListN.{length}
+use mathlib.Core.Bool.{Bool}
+use mathlib.Core.List.{List}
+use mathlib.Core.Path.{◌≡◌, ap₂, ◌∙◌, sym, ap}
+use Prim.Native.Nat.{ℕ, ◌+◌, ◌≤◌}
 use native.Mathlib.Omega.{arith}
-use mathlib.Core.Bool.{Bool, true}
-use mathlib.Core.Path.{◌≡◌, sym, ap, ◌∙◌}
-use Prim.Native.Nat.{◌*◌, ◌+◌, ◌≤◌, ◌<◌}
-use Rattle.laws.proofs.Views.{length_view, within, part_view}
-use Rattle.definition.specs.Chains.{part, later_parse}
-use Rattle.definition.specs.declared.Parsed.{Parsed}
-use Rattle.definition.specs.declared.PartKind.TheVariants.{Continuation, Last}
-use Rattle.definition.specs.declared.PartKind.{PartKind}
-use Rattle.walks.proofs.WalkLaws.{held_most, held_more, limit, unlinked, above, bad_part, no_head, last, turn}
-use Rattle.definition.specs.Answers.{parse_of}
-use Rattle.laws.proofs.Sizes.{sizes}
+use lib.ListN.{length}
+use Rattle.std.proofs.lemmas.Result.{err_from_is_err_and}
+use Rattle.definition.specs.Chains.{Parse, later_parse}
 use Rattle.definition.specs.Slots.{view}
+use Rattle.laws.proofs.Views.{within}
+use Rattle.slots.specs.declared.layout.Layout.{Layout}
+use Rattle.walks.proofs.WalkLaws.{held_most, limit, unlinked, above, bad_part, no_head, last, turn}
 use Rattle.walks.proofs.chain.walk_rest.Goals as goal
+use Rattle.walks.proofs.chain.walk_rest.Goals.{After-slot, In_ok-part, then-at-eq0-via-then-at-eq0, then-at-eq0-via-else-at-eq0+then-at-table}
+
+-- the slot that was found is the table's
+found : (c : After-slot) (p : Parse) → ((mark after : Bool) → p ≡ later_parse c.slot.result.layout.settings mark after c.slot.result.bytes.now)
+    → let s = c.args.table.now.layout.settings in (mark after : Bool) → p ≡ later_parse s mark after (view s.size c.args.table.now.bytes.now c.loop-before.at)
+found c p e mark after = e mark after ∙ ap₂ (λ (l : Layout) (b : List ℕ). later_parse l.settings mark after b) c.slot.ensures.1 c.slot.ensures.0
+
+whole : (c : After-slot) → let s = c.args.table.now.layout.settings in length (view s.size c.args.table.now.bytes.now c.loop-before.at) ≡ s.size
+whole c = sym (ap length c.slot.ensures.0) ∙ c.slot.result.whole ∙ ap (λ (l : Layout). l.settings.size) c.slot.ensures.1
+
+fits : (c : In_ok-part) → c.loop-before.bytes + c.in_ok-part.part.bytes ≤ length c.args.table.now.bytes.now
+fits c =
+    let t = c.args.table.now in
+    let m = held_most _ _ c.in_ok-part.part.kind c.in_ok-part.part.bytes (found (goal.at.In_ok-part c).After-slot _ c.in_ok-part.ensures) in
+    omega (arith, m, c.loop-before.invariant.few, within t.layout.settings.size c.loop-before.before t.header.filled _ (omega (arith, c.loop-before-test.true)) t.fits)
 
 pub returns-then-at-eq0 : goal.returns-then-at-eq0
 returns-then-at-eq0 c =
-    λ mark. unlinked _ _ _ _ mark _ _ _ (c.loop-parts.invariant.2 mark) c.loop-parts-test.true c.if-at-eq0.true
+    elim c.then-at-eq0.branch [
+      | then-at-eq0-via-then-at-eq0 w ↦ unlinked c.loop-before.invariant c.loop-before-test.true w.if-at-eq0.true
+      | then-at-eq0-via-else-at-eq0+then-at-table w ↦ above c.loop-before.invariant c.loop-before-test.true w.if-at-table.true
+    ]
 
-pub returns-then-at-filled : goal.returns-then-at-filled
-returns-then-at-filled c =
-    λ mark. above _ _ _ _ mark _ _ _ (c.loop-parts.invariant.2 mark) c.loop-parts-test.true c.if-at-filled.true
-
-pub returns-in-Refused : goal.returns-in-Refused
-returns-in-Refused c =
-    let above_zero : 0 < c.loop-parts.at = omega (arith, c.if-at-eq0.false) in
-    let met : (mark : Bool) → parse_of c.read_next_part.result ≡ later_parse c.args.s mark (eqb c.loop-parts.parts 0) (view c.args.s.size c.args.table.now c.loop-parts.at) = λ mark. c.read_next_part.ensures mark (eqb c.loop-parts.parts 0)
-    ∙ ap (later_parse c.args.s mark (eqb c.loop-parts.parts 0)) (part_view c.args.s.size c.loop-parts.at c.args.table.now) in
-    λ mark. bad_part _ _ _ _ mark _ _ _ (c.loop-parts.invariant.2 mark) c.loop-parts-test.true above_zero c.if-at-filled.false c.in-Refused.r (sym (ap parse_of c.in-Refused.is) ∙ met mark)
+pub returns-in_err-part : goal.returns-in_err-part
+returns-in_err-part c =
+    let p = err_from_is_err_and c.from_residual.result c.from_residual.ensures.1 in
+    rw (p.1, p.2)
+    (bad_part c.loop-before.invariant c.loop-before-test.true c.if-at-eq0.false c.if-at-table.false c.in_err-part.field-0.0
+    (found (goal.at.returns-in_err-part c).After-slot _ c.in_err-part.ensures))
 
 pub overflow_add-bytes : goal.overflow_add-bytes
-overflow_add-bytes c =
-    let inside : c.loop-parts.at * c.args.s.size + c.args.s.size ≤ length c.args.table.now = within _ _ c.args.filled _ c.if-at-filled.false c.requires.1 in
-    let met : (mark : Bool) → parse_of c.read_next_part.result ≡ later_parse c.args.s mark (eqb c.loop-parts.parts 0) (view c.args.s.size c.args.table.now c.loop-parts.at) = λ mark. c.read_next_part.ensures mark (eqb c.loop-parts.parts 0)
-    ∙ ap (later_parse c.args.s mark (eqb c.loop-parts.parts 0)) (part_view c.args.s.size c.loop-parts.at c.args.table.now) in
-    let continuation : (mark : Bool) → part (Continuation c.in-Continuation.next) c.in-Part.n ≡ later_parse c.args.s mark (eqb c.loop-parts.parts 0) (view c.args.s.size c.args.table.now c.loop-parts.at) = λ mark. sym (ap parse_of (c.in-Part.is ∙ ap (λ (k : PartKind). Parsed.Part k c.in-Part.n) c.in-Continuation.is)) ∙ met mark in
-    omega (arith, inside, c.loop-parts.invariant.1, held_most _ true _ _ _ _ (continuation true), within c.args.s.size c.loop-parts.parts c.args.filled _ (omega (arith, c.loop-parts-test.true)) c.requires.1)
+overflow_add-bytes c = omega (arith, fits (goal.at.overflow_add-bytes c).In_ok-part)
 
 pub overflow_add-result-in-Last : goal.overflow_add-result-in-Last
-overflow_add-result-in-Last c =
-    let met : (mark : Bool) → parse_of c.read_next_part.result ≡ later_parse c.args.s mark (eqb c.loop-parts.parts 0) (view c.args.s.size c.args.table.now c.loop-parts.at) = λ mark. c.read_next_part.ensures mark (eqb c.loop-parts.parts 0)
-    ∙ ap (later_parse c.args.s mark (eqb c.loop-parts.parts 0)) (part_view c.args.s.size c.loop-parts.at c.args.table.now) in
-    let ending : (mark : Bool) → part (Last c.in-Last.field-0) c.in-Part.n ≡ later_parse c.args.s mark (eqb c.loop-parts.parts 0) (view c.args.s.size c.args.table.now c.loop-parts.at) = λ mark. sym (ap parse_of (c.in-Part.is ∙ ap (λ (k : PartKind). Parsed.Part k c.in-Part.n) c.in-Last.is)) ∙ met mark in
-    omega (arith, c.loop-parts.invariant.1, held_most _ true _ _ _ _ (ending true), within c.args.s.size c.loop-parts.parts c.args.filled _ (omega (arith, c.loop-parts-test.true)) c.requires.1)
+overflow_add-result-in-Last c = omega (arith, fits (goal.at.overflow_add-result-in-Last c).In_ok-part)
 
 pub returns-in-Last : goal.returns-in-Last
 returns-in-Last c =
-    let inside : c.loop-parts.at * c.args.s.size + c.args.s.size ≤ length c.args.table.now = within _ _ c.args.filled _ c.if-at-filled.false c.requires.1 in
-    let above_zero : 0 < c.loop-parts.at = omega (arith, c.if-at-eq0.false) in
-    let met : (mark : Bool) → parse_of c.read_next_part.result ≡ later_parse c.args.s mark (eqb c.loop-parts.parts 0) (view c.args.s.size c.args.table.now c.loop-parts.at) = λ mark. c.read_next_part.ensures mark (eqb c.loop-parts.parts 0)
-    ∙ ap (later_parse c.args.s mark (eqb c.loop-parts.parts 0)) (part_view c.args.s.size c.loop-parts.at c.args.table.now) in
-    let ending : (mark : Bool) → part (Last c.in-Last.field-0) c.in-Part.n ≡ later_parse c.args.s mark (eqb c.loop-parts.parts 0) (view c.args.s.size c.args.table.now c.loop-parts.at) = λ mark. sym (ap parse_of (c.in-Part.is ∙ ap (λ (k : PartKind). Parsed.Part k c.in-Part.n) c.in-Last.is)) ∙ met mark in
-    let z = sizes c.args.s c.requires.0 in
-    λ mark. last _ _ _ _ mark _ _ _ (c.loop-parts.invariant.2 mark) c.loop-parts-test.true above_zero c.if-at-filled.false _ _ (omega arith) (length_view c.args.s.size c.loop-parts.at c.args.table.now inside) (ending mark)
+    let d = (goal.at.returns-in-Last c).After-slot in
+    last c.loop-before.invariant c.loop-before-test.true c.if-at-eq0.false c.if-at-table.false _ _ (found d _ c.in_ok-part.ensures) _ c.in-Last.is (omega arith) (whole d)
 
 pub returns-in-Head : goal.returns-in-Head
 returns-in-Head c =
-    let above_zero : 0 < c.loop-parts.at = omega (arith, c.if-at-eq0.false) in
-    let met : (mark : Bool) → parse_of c.read_next_part.result ≡ later_parse c.args.s mark (eqb c.loop-parts.parts 0) (view c.args.s.size c.args.table.now c.loop-parts.at) = λ mark. c.read_next_part.ensures mark (eqb c.loop-parts.parts 0)
-    ∙ ap (later_parse c.args.s mark (eqb c.loop-parts.parts 0)) (part_view c.args.s.size c.loop-parts.at c.args.table.now) in
-    λ mark. no_head _ _ _ _ mark _ _ _ (c.loop-parts.invariant.2 mark) c.loop-parts-test.true above_zero c.if-at-filled.false _ _ (sym (ap parse_of (c.in-Part.is ∙ ap (λ (k : PartKind). Parsed.Part k c.in-Part.n) c.in-Head.is)) ∙ met mark)
+    no_head c.loop-before.invariant c.loop-before-test.true c.if-at-eq0.false c.if-at-table.false _ _ (found (goal.at.returns-in-Head c).After-slot _ c.in_ok-part.ensures) _
+    c.in-Head.is
 
-pub loop-parts-preserved : goal.loop-parts-preserved
-loop-parts-preserved c =
-    let inside : c.loop-parts.at * c.args.s.size + c.args.s.size ≤ length c.args.table.now = within _ _ c.args.filled _ c.if-at-filled.false c.requires.1 in
-    let above_zero : 0 < c.loop-parts.at = omega (arith, c.if-at-eq0.false) in
-    let met : (mark : Bool) → parse_of c.read_next_part.result ≡ later_parse c.args.s mark (eqb c.loop-parts.parts 0) (view c.args.s.size c.args.table.now c.loop-parts.at) = λ mark. c.read_next_part.ensures mark (eqb c.loop-parts.parts 0)
-    ∙ ap (later_parse c.args.s mark (eqb c.loop-parts.parts 0)) (part_view c.args.s.size c.loop-parts.at c.args.table.now) in
-    let continuation : (mark : Bool) → part (Continuation c.in-Continuation.next) c.in-Part.n ≡ later_parse c.args.s mark (eqb c.loop-parts.parts 0) (view c.args.s.size c.args.table.now c.loop-parts.at) = λ mark. sym (ap parse_of (c.in-Part.is ∙ ap (λ (k : PartKind). Parsed.Part k c.in-Part.n) c.in-Continuation.is)) ∙ met mark in
-    let at = length_view c.args.s.size c.loop-parts.at c.args.table.now inside in (
-      omega (arith, c.loop-parts-test.true),
-      held_more c.args.s.size _ _ _ c.loop-parts.invariant.1 (held_most _ true _ _ _ _ (continuation true)),
-      λ mark. turn _ _ _ _ mark _ _ _ (c.loop-parts.invariant.2 mark) c.loop-parts-test.true above_zero c.if-at-filled.false _ _ at (continuation mark),
-    )
+pub loop-before-preserved : goal.loop-before-preserved
+loop-before-preserved c =
+    let d = (goal.at.loop-before-preserved c).After-slot in
+    turn c.loop-before.invariant c.loop-before-test.true c.if-at-eq0.false c.if-at-table.false _ _ (found d _ c.in_ok-part.ensures) _ c.in-Continuation.is (whole d)
 
 pub returns : goal.returns
-returns c =
-    λ mark. limit _ _ _ _ mark _ _ _ (c.loop-parts.invariant.2 mark) c.loop-parts-test.false
+returns c = limit c.loop-before.invariant c.loop-before-test.false

@@ -1,0 +1,2 @@
+-- Cuts of a text at a separator.
+pub mod Cuts

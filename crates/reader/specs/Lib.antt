@@ -1,0 +1,2 @@
+-- What a look at a table finds.
+pub mod Opened

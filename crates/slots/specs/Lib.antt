@@ -1,0 +1,2 @@
+-- The key that is checked.
+pub mod Keys

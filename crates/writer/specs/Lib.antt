@@ -1,0 +1,2 @@
+-- Prefix and content joined.
+pub mod Bodies
