@@ -20,7 +20,7 @@ fn value_bad(layout: Layout, n: usize) -> bool
 }
 
 // The parts of n bytes of prefix and content: one on a fixed table, else a head and as many more as the rest takes.
-#[tactic(auto, unfolding(definition::specs::Settings::head_overhead))]
+#[tactic(auto, using(laws::proofs::Overheads::overhead_bounds))]
 fn parts_needed(layout: Layout, n: usize) -> u64
     requires { layout.settings.multipart ≡ true → layout.settings.size - word_bytes < n }
     ensures { (body : List ℕ) → length body ≡ n → result ≡ length (pieces layout.settings body) }

@@ -76,7 +76,7 @@ pub fn read_total(slot: &[u8]) -> u64
 }
 
 // The link of a head, right before its prefix.
-#[tactic(auto, unfolding(definition::specs::Slots::head_link, definition::specs::Settings::head_overhead))]
+#[tactic(auto, using(laws::proofs::Overheads::overhead_bounds), unfolding(definition::specs::Slots::head_link))]
 pub fn read_head_next(slot: &[u8], s: Settings) -> u64
     requires { 18 ≤ length slot.now }
     ensures { result ≡ head_link s slot.now }
