@@ -28,7 +28,7 @@ pub struct PartialKey {
 impl PartialKey {
     ghost use Rattle.entry.specs.Reading.{key_at};
 
-    // The partial key at place `at`, its words one by one: a word read too early is a must-fail edit.
+    // The partial key at place `at`, another at each call. Its words stand one by one: a word read too early is a must-fail edit.
     pub fn at(s: &[u8], at: usize) -> PartialKey
         requires { at + key_bytes ≤ length s.now }
         ensures { result ≡ key_at at s.now }
@@ -59,7 +59,7 @@ impl<'a> EntryRef<'a> {
         self.slot.len() - self.at
     }
 
-    // Moves on by n bytes.
+    // Moves on by n bytes. What must lie behind the place is another number here and in each read below, so each asks it.
     pub fn skip(&mut self, n: usize)
         requires { self.old.at + n ≤ length self.old.slot.now }
         ensures { Moved self.old self.new n }

@@ -1,5 +1,6 @@
 -- A condition decides: `cond b x y` is x where b holds and y where it does not. What a comparison says is in the library
 -- (borrow.Author.Tests); here are the two ways, case splits that keep their equation, and `&&` and `||` taken apart.
+-- The library has some of these by other names; the ledger's theorems cite them by ours.
 use mathlib.Core.Path.{◌≡◌, refl}
 use mathlib.Core.Bool.{Bool, true, false, cond, ◌&&◌, ◌||◌}
 use Prim.Native.Nat.{ℕ, ◌<◌}

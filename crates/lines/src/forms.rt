@@ -4,7 +4,7 @@ ghost use Rattle.std.specs.List.{Contains};
 
 use crate::{values, words};
 
-// What stands beside the first of these forms that a line has.
+// What stands beside the first of these forms that a line has. When it answers none is left open: no caller asks.
 pub fn which_form<K: Copy>(line: &[u8], forms: &[(&[u8], K)]) -> Option<K>
     ensures { IfSome result (Contains (map (λ form. form.1) forms.now)) }
 {
@@ -20,7 +20,8 @@ fn fits(line: &[u8], form: &[u8]) -> bool {
 }
 
 // Whether a word, or that there is none, is what a word of a form says: N a number, S a signed step, V a value, L the length of
-// a table that the buffer holds, C `compressed` or nothing, and else one of the words that it has `|` between.
+// a table that the buffer holds, C `compressed` or nothing, and else one of the words that it has `|` between. A match: a closure for each
+// would be made and handed out.
 fn is(word: &[u8], said: &[u8]) -> bool {
     match said {
         b"N" => words::spells(word, 10),

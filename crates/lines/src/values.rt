@@ -75,7 +75,8 @@ pub fn is_value(word: &[u8]) -> bool {
     value_of(word).is_some_and(|v| v.len <= ROOM as u64)
 }
 
-// The value in a line: its bytes, which lie at the start of the room. None where the word stands for no bytes that the room holds.
+// The value in a line: its bytes, which lie at the start of the room. None where the word stands for no bytes that the room holds: when that
+// is, is left open, since no caller asks.
 pub fn value_at<'a>(line: &[u8], place: usize, room: &'a mut [u8]) -> Option<&'a [u8]>
     ensures { IfSome result (λ value. length value.now ≤ length room.old) }
 {
@@ -127,7 +128,7 @@ fn hex_digit(digits: &[u8], at: usize) -> u8
     digits.get(at).and_then(|b| words::digit(*b)).unwrap_or(0)
 }
 
-// What is cut off is meant.
+// What is cut off is meant: so no try_from, which refuses what does not fit.
 fn low(n: u64) -> u8 {
     (n % 256) as u8
 }

@@ -49,7 +49,7 @@ pub fn which(word: &[u8], names: &[u8], separator: u8) -> Option<usize>
 
 // ---- numbers
 
-// The value of a hexadecimal digit. Not char::to_digit: capitals are no digits here.
+// The value of a hexadecimal digit. Not char::to_digit: capitals are no digits here. When it answers none is left open: no caller asks.
 pub fn digit(byte: u8) -> Option<u8>
     ensures { IfSome result (λ value. value < 16) }
 {

@@ -54,7 +54,7 @@ impl<'a> Slot<'a> {
 
     // The slot where a chain starts: its tests in order, then its kind, with its link, and the bytes that it holds.
     // `mismatch` is the refusal of a checked key that differs. Inlined, as are those that call it in a read: slot, table and key then need
-    // not lie in memory, which is a quarter of the time of a short read.
+    // not lie in memory, which is a tenth of the time of a short read.
     #[tactic(auto, using(laws::proofs::Overheads::overhead_bounds), unfolding(definition::specs::Chains::head_parse, definition::specs::Chains::head_fault, definition::specs::Chains::start_part, definition::specs::Chains::unless_refused, definition::specs::Tests::first, definition::specs::Tests::refuse))]
     #[inline(always)]
     pub fn parse_head(&self, key: Option<&[u8]>, mismatch: Refusal) -> Result<Part, Refusal>

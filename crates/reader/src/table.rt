@@ -1,4 +1,5 @@
-// A table that passed tests 1, 2 and 3, with its header: what every look at it starts from.
+// A table with settings that passed test 1, its own header, and FILLED slots within it: what every look at it starts from. `open` makes one
+// by tests 1, 2 and 3.
 ghost use Rattle.std.specs.Prelude.{◌≡◌, ◌*◌, ◌≤◌, ◌<◌, length};
 ghost use Rattle.definition.specs.Slots.{view, header_of};
 

@@ -1,7 +1,8 @@
 // The writing loop: prefix and content laid into slots, what is left of the old chain freed, the header stored.
 // Nothing here refuses: the checks are made before, by others, and from the first store on nothing can go wrong.
 // 0 stands for no slot, as in the layout and in the definition's words for it (`Linked`, `taken_from`): an Option would be made of each link
-// and unmade again. The header stays beside the table: it runs ahead of the one in slot 0.
+// and unmade again. The header stays beside the table: it runs ahead of the one in slot 0. And the table stays slots linked by number, with no
+// list over it: that is the layout, on lent bytes.
 #![tactic(auto)]
 
 pub mod records;
