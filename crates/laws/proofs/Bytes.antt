@@ -4,7 +4,7 @@ use mathlib.Core.Path.{◌≡◌, refl, sym, ap, ◌∙◌}
 use mathlib.Core.List.{List, [], ◌∷◌, ◌++◌}
 use Prim.Native.Nat.{ℕ, zero, suc, ◌+◌, ◌*◌, ◌/◌, ◌%◌, ◌^◌, ◌≤◌, ◌<◌}
 use native.Mathlib.Numerals.{add-one}
-use native.Mathlib.Nat.{mul_assoc, pow-succ', pow-suc, div-lt_iff_lt-mul, zero-lt-suc, min-le_left}
+use native.Mathlib.Nat.{mul_assoc, pow-succ', pow-suc, add_comm, div-add-mod, div-div-eq-div-mul, div-lt_iff_lt-mul, zero-lt-suc, suc-add, zero-add, div-one, min-le_left}
 use native.Mathlib.Decide.{dec_lt}
 use native.Mathlib.Omega.{arith}
 use lib.ListN.{length, take, drop, get_or, length-take, get_or-eq_default}
@@ -43,6 +43,27 @@ unfolding num
 num_two_parts a b at t h = rw (take-add, le_append, length_part t at a h, drop-drop)
 
 -- ---- storing
+
+-- what stands above the k lowest bytes does not count
+bytes_above : (k n m : ℕ) → bytes k (n + 256 ^ k * m) ≡ bytes k n
+unfolding bytes
+bytes_above zero n m = refl
+bytes_above (suc k) n m =
+    let e : (n + 256 * (256 ^ k * m)) % 256 ≡ n % 256 = omega arith in
+    let d : (n + 256 * (256 ^ k * m)) / 256 ≡ n / 256 + 256 ^ k * m = omega arith in
+    rw (pow-succ' 256 k, mul_assoc 256 (256 ^ k) m, e, d, bytes_above k (n / 256) m)
+
+bytes_mod : (k n : ℕ) → bytes k (n % 256 ^ k) ≡ bytes k n
+bytes_mod k n = sym (bytes_above k (n % 256 ^ k) (n / 256 ^ k)) ∙ ap (bytes k) (add_comm (n % 256 ^ k) (256 ^ k * (n / 256 ^ k)) ∙ div-add-mod n (256 ^ k))
+
+bytes_append : (a b n : ℕ) → bytes a n ++ bytes b (n / 256 ^ a) ≡ bytes (a + b) n
+unfolding bytes
+bytes_append zero b n = rw (div-one, zero-add)
+bytes_append (suc a) b n = rw (pow-succ', ← div-div-eq-div-mul, suc-add, bytes_append a b (n / 256))
+
+-- the low half and the high half
+pub bytes_halves : (k n : ℕ) → bytes k (n % 256 ^ k) ++ bytes k (n / 256 ^ k) ≡ bytes (k + k) n
+bytes_halves k n = ap (λ (b : List ℕ). b ++ bytes k (n / 256 ^ k)) (bytes_mod k n) ∙ bytes_append k k n
 
 -- ---- bytes and the number that they spell say the same
 

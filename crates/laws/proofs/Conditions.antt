@@ -63,5 +63,8 @@ pub and_split : (a b : Bool) → (a && b) ≡ true → (a ≡ true) × (b ≡ tr
 and_split true b e = (refl, e)
 and_split false b e = yes-no false e refl
 
+pub or_skip : (a b : Bool) → a ≡ false → (a || b) ≡ b
+or_skip a b p = rw p refl
+
 pub and_skip : (a b : Bool) → a ≡ true → (a && b) ≡ b
 and_skip a b p = rw p refl

@@ -1,12 +1,37 @@
--- The head in a slot: its parse tells the first of the head's tests that refuses (`parse_fault`), or what starts there (`parse_part`).
+-- The slot of a call and the head in it: what the slot's test says (`slot_zero`, `slot_above`, `slot_good`), and that a head's parse tells
+-- the first of the head's tests that refuses (`parse_fault`), or what starts there (`parse_part`).
 use mathlib.Core.Path.{◌≡◌, refl, sym, ap, ◌∙◌}
+use mathlib.Core.Logic.{◌≢◌}
 use mathlib.Core.Bool.{Bool, true, false, cond}
 use mathlib.Core.List.{List}
 use mathlib.Core.Option.{Option}
-use Prim.Native.Nat.{ℕ, zero, suc}
+use Prim.Native.Nat.{ℕ, zero, suc, ◌≤◌, ◌<◌}
+use lib.Dec.{eqb, leb}
+use borrow.Author.Tests.{eq-eqb, ne_eqb, le-leb, lt-leb}
 use Rattle.definition.specs.declared.Settings.{Settings}
 use Rattle.definition.specs.declared.PartKind.{PartKind}
+use Rattle.definition.specs.Slots.{View, filled}
 use Rattle.definition.specs.Chains.{Parse, refused, part, unless_refused, head_fault, start_part, head_parse}
+use Rattle.definition.specs.Calls.{slot_test}
+use Rattle.laws.proofs.Conditions.{or_left, or_right, or_no}
+use Rattle.laws.proofs.Tests.{refuse_yes, refuse_no}
+
+-- ---- the slot
+
+module _ (f : View) (h : ℕ) where
+  pub slot_zero : h ≡ 0 → slot_test f h ≡ 7
+  unfolding slot_test
+  slot_zero e = refuse_yes 7 _ (or_left (eqb h 0) (leb (filled f) h) (eq-eqb h 0 e))
+
+  pub slot_above : filled f ≤ h → slot_test f h ≡ 7
+  unfolding slot_test
+  slot_above e = refuse_yes 7 _ (or_right (eqb h 0) (leb (filled f) h) (le-leb (filled f) h e))
+
+  pub slot_good : h ≢ 0 → h < filled f → slot_test f h ≡ 0
+  unfolding slot_test
+  slot_good z b = refuse_no 7 _ (or_no (eqb h 0) (leb (filled f) h) (ne_eqb h 0 z) (lt-leb (filled f) h b))
+
+-- ---- the head
 
 -- the refusal of a look at a slot, 0 if there is none
 abbrev pub fault_in : Parse → ℕ

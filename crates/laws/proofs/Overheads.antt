@@ -17,6 +17,10 @@ pub count_most : (s : Settings) → count_len s ≤ 4
 unfolding count_len
 count_most s = cond_most s.counted 4 0 (omega arith)
 
+pub key_most : (s : Settings) → key_len s ≤ 26
+unfolding key_len
+key_most s = cond_most s.keyed 26 0 (omega arith)
+
 -- a head's overhead has at least its mark and link, and at most its total besides
 pub overhead_bounds : (s : Settings) → (link_overhead ≤ head_overhead s) × (head_overhead s ≤ link_overhead + total_bytes)
 unfolding head_overhead

@@ -2,12 +2,13 @@
 -- was lent and comes back is a put into the whole (`lent`, `lent_put`): every byte outside it is as it was.
 use mathlib.Core.Path.{◌≡◌, refl, sym, ap, ◌∙◌}
 use mathlib.Core.List.{List, [], ◌++◌, append_assoc, append-nil}
-use Prim.Native.Nat.{ℕ, ◌+◌, ◌-◌, ◌≤◌}
+use Prim.Native.Nat.{ℕ, ◌+◌, ◌-◌, ◌/◌, ◌%◌, ◌^◌, ◌≤◌}
 use native.Mathlib.Nat.{add_assoc}
 use native.Mathlib.Omega.{arith}
 use lib.ListN.{length, take, drop, length-append, length-take, length-drop, take-append-drop}
 use lib.Seq.{drop-drop, take-add, take-take, take_at, drop_at, drop-append-le}
-use Rattle.definition.specs.Numbers.{over, put}
+use Rattle.definition.specs.Numbers.{bytes, over, put}
+use Rattle.laws.proofs.Bytes.{length_bytes, bytes_halves}
 
 pub length_over : (bs old : List ℕ) → length bs ≤ length old → length (over bs old) ≡ length old
 unfolding over
@@ -39,6 +40,14 @@ put_put t at bs cs h =
 -- the same, where the second place is known by its own name
 pub put_next : (t : List ℕ) (at to : ℕ) (bs cs : List ℕ) → to ≡ at + length bs → to + length cs ≤ length t → put (put t at bs) to cs ≡ put t at (bs ++ cs)
 put_next t at to bs cs e h = ap (λ (j : ℕ). put (put t at bs) j cs) e ∙ put_put t at bs cs (omega arith)
+
+-- a number stored by its halves
+pub put_halves : (k : ℕ) (t : List ℕ) (at n : ℕ) → at + k + k ≤ length t
+    → put (put t at (bytes k (n % 256 ^ k))) (at + k) (bytes k (n / 256 ^ k)) ≡ put t at (bytes (k + k) n)
+put_halves k t at n h =
+    let l : length (bytes k (n % 256 ^ k)) ≡ k = length_bytes k (n % 256 ^ k) in
+    put_next t at (at + k) (bytes k (n % 256 ^ k)) (bytes k (n / 256 ^ k)) (omega arith) (omega (arith, length_bytes k (n / 256 ^ k)))
+    ∙ ap (put t at) (bytes_halves k n)
 
 -- the part `&mut t[at..e]` was lent and comes back as bs
 pub lent : (t : List ℕ) (at e : ℕ) (bs : List ℕ) → length bs ≡ e - at → take at t ++ (bs ++ drop (e - at) (drop at t)) ≡ put t at bs

@@ -1,4 +1,4 @@
-// Texts cut at a separator, as a line into words; words compared, and read as numbers. Nothing here asks anything of its caller: a part
+// Texts cut at a separator, as a line into words; words compared, and read as numbers. No public function asks anything of its caller: a part
 // that is not there is empty, and of a word that spells no number 0 is read. A line is lent whole and each call asks another place of it, so
 // both are parameters.
 ghost use Rattle.std.specs.Prelude.{◌≡◌, ◌≢◌, ◌<◌, ◌↔◌, IsTrue, IfSome, IfNone};

@@ -1,6 +1,8 @@
-// Numbers in slices: little-endian numbers read and stored, and marks as pairs of bytes.
+// Numbers in slices: little-endian numbers read and stored, and marks as pairs of bytes; and bytes copied.
 // Of a slot it knows only that its mark stands first.
 #![tactic(auto)]
+
+pub mod blocks;
 
 ghost use Rattle.std.specs.Prelude.{◌≡◌, ℕ, [], ◌∷◌, ◌+◌, ◌≤◌, length, get_or};
 ghost use Rattle.definition.specs.Numbers.{bytes, num, put};

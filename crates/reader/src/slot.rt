@@ -26,6 +26,7 @@ pub struct Slot<'a> {
 impl<'a> Slot<'a> {
     // Slot i of a table, which may be one that is being written: so of bytes and layout.
     #[tactic(auto, unfolding(definition::specs::Slots::view))]
+    #[inline(always)]
     pub fn of(table: &'a [u8], layout: Layout, i: u64) -> Slot<'a>
         requires { i * layout.settings.size + layout.settings.size ≤ length table.now }
         ensures { (result.bytes.now ≡ view layout.settings.size table.now i) × (result.layout ≡ layout) }
@@ -53,8 +54,8 @@ impl<'a> Slot<'a> {
     }
 
     // The slot where a chain starts: its tests in order, then its kind, with its link, and the bytes that it holds.
-    // `mismatch` is the refusal of a checked key that differs. Inlined, as are those that call it in a read: slot, table and key then need
-    // not lie in memory, which is a tenth of the time of a short read.
+    // `mismatch` is the refusal of a checked key that differs. Inlined, as is all that a read goes through down to the copy: slot, table
+    // and key then need not lie in memory, which is up to a third of a fixed read's time (docs/SPEED.md, "What is handed on in memory").
     #[tactic(auto, using(laws::proofs::Overheads::overhead_bounds), unfolding(definition::specs::Chains::head_parse, definition::specs::Chains::head_fault, definition::specs::Chains::start_part, definition::specs::Chains::unless_refused, definition::specs::Tests::first, definition::specs::Tests::refuse))]
     #[inline(always)]
     pub fn parse_head(&self, key: Option<&[u8]>, mismatch: Refusal) -> Result<Part, Refusal>
@@ -91,6 +92,7 @@ impl<'a> Slot<'a> {
 
     // A later part of a chain: its kind, with its link, and the bytes that it holds.
     #[tactic(auto, unfolding(definition::specs::Chains::later_parse, definition::specs::Chains::last_fault, definition::specs::Chains::unless_refused, definition::specs::Tests::refuse))]
+    #[inline(always)]
     pub fn parse_later(&self) -> Result<Part, Refusal>
         ensures { (mark after_head : Bool) → parse_of result ≡ later_parse self.now.layout.settings mark after_head self.now.bytes.now }
     {

@@ -23,6 +23,7 @@ impl<'a> Table<'a> {
 
     // Tests 1, 2 and 3: settings, capacity, header.
     #[tactic(auto, unfolding(definition::specs::Calls::settings_test, definition::specs::Calls::buffer_test, definition::specs::Calls::header_test, definition::specs::Calls::capacity, definition::specs::Tests::first, definition::specs::Tests::refuse))]
+    #[inline(always)]
     pub fn open(bytes: &'a [u8], settings: Settings) -> Result<Table<'a>, Refusal>
         ensures { OpenedIs result settings bytes.now }
     {
@@ -51,6 +52,7 @@ impl<'a> Table<'a> {
     }
 
     // Slot i, below FILLED.
+    #[inline(always)]
     pub fn slot(&self, i: u64) -> Slot<'a>
         requires { i < self.now.header.filled }
         ensures { (result.bytes.now ≡ slots_of self.now i) × (result.layout ≡ self.now.layout) }
@@ -60,6 +62,7 @@ impl<'a> Table<'a> {
 
     // Test 7, then the slot.
     #[tactic(auto, unfolding(definition::specs::Calls::slot_test, definition::specs::Tests::refuse))]
+    #[inline(always)]
     pub fn record_slot(&self, i: u64) -> Result<Slot<'a>, Refusal>
         ensures { SlotIs result self.now i }
     {

@@ -177,16 +177,14 @@ module _ (s : Settings) (buf u : List ℕ) where
   no_count c e = e ∙ sym (put_none buf 0) ∙ ap (put buf 0) (sym (cond_no s.counted (bytes 4 1) [] c))
 
   module _ (key d : List ℕ) (t : key_test s key ≡ 0) (w : length buf ≡ 30) (eu : u ≡ put buf 0 (new_count s)) where
-    pub key_laid : (n : ℕ) (part : List ℕ) → s.keyed ≡ true → n ≡ count_len s → d ≡ put_mid n (n + 26 - n) u part → part ≡ take (length key - 6) (drop 6 key) → d ≡ put buf 0 (prefix s key)
+    pub key_laid : (n : ℕ) (part : List ℕ) → s.keyed ≡ true → n ≡ count_len s → d ≡ put_mid n (n + 26 - n) u part → part ≡ take 26 (drop 6 key) → d ≡ put buf 0 (prefix s key)
     unfolding prefix partial_key new_count
     key_laid n part k en e ep =
-        let h : length key - 6 ≡ 26 = omega (arith, key_whole s key k t) in
-        let p : part ≡ partial_key key = ep ∙ ap (λ (m : ℕ). take m (drop 6 key)) h in
-        let l : length part ≡ 26 = ap length p ∙ length_part key 6 26 (omega (arith, key_whole s key k t)) in
+        let l : length part ≡ 26 = ap length ep ∙ length_part key 6 26 (omega (arith, key_whole s key k t)) in
         let count_first : d ≡ put (put buf 0 (new_count s)) n part = e ∙ lent u n (n + 26) part (omega arith) ∙ ap (λ (v : List ℕ). put v n part) eu in
         count_first
         ∙ put_next buf 0 n (new_count s) part (omega (arith, length_new_count s)) (omega (arith, count_most s))
-        ∙ ap (λ (v : List ℕ). put buf 0 (new_count s ++ v)) (p ∙ sym (cond_yes s.keyed (partial_key key) [] k))
+        ∙ ap (λ (v : List ℕ). put buf 0 (new_count s ++ v)) (ep ∙ sym (cond_yes s.keyed (partial_key key) [] k))
 
     pub no_key : s.keyed ≡ false → d ≡ u → d ≡ put buf 0 (prefix s key)
     unfolding prefix new_count

@@ -15,6 +15,7 @@ use numbers::Number;
 
 // Whether the 26 bytes of the slot at place `at` are the key's bytes 6 to 31. Two slices, each with a place of its own.
 #[tactic(auto, using(crate::proofs::KeyLaws::same_words))]
+#[inline(always)]
 fn same_key(slot: &[u8], at: usize, key: &[u8]) -> bool
     requires { (at + key_bytes ≤ length slot.now) × (length key.now ≡ hash_bytes) }
     ensures { result ≡ same_bytes (take key_bytes (drop at slot.now)) (partial_key key.now) }
@@ -25,6 +26,7 @@ fn same_key(slot: &[u8], at: usize, key: &[u8]) -> bool
 // Whether the key that is checked, if one is, differs from the one in the slot. An unkeyed table ignores it, whatever its length: so here
 // and above test 4 is asked, and no type of a whole key stands for it, which would ask more. And of the slot its bytes: `Slot` is made above.
 #[tactic(auto, using(crate::proofs::KeyLaws::asked_keys))]
+#[inline(always)]
 pub fn key_differs(slot: &[u8], layout: Layout, key: Option<&[u8]>) -> bool
     requires { (length slot.now ≡ layout.settings.size) × (checked_key_test layout.settings (lent_key key) ≡ 0) }
     ensures { result ≡ key_differs layout.settings (lent_key key.entry) slot.now }
@@ -48,7 +50,7 @@ pub fn write_prefix(buf: &mut [u8; PREFIX_SIZE], s: Settings, key: &[u8]) -> usi
     }
     let at = s.count_len();
     if s.keyed {
-        buf[at..at + PARTIAL_SIZE].copy_from_slice(&key[KEY_SKIP..]);
+        buf[at..at + PARTIAL_SIZE].copy_from_slice(&key[KEY_SKIP..KEY_SKIP + PARTIAL_SIZE]);
     }
     s.prefix_len()
 }

@@ -16,6 +16,7 @@ pub struct Layout {
 impl Layout {
     // Test 1.
     #[tactic(auto, unfolding(definition::specs::Settings::bad_settings))]
+    #[inline(always)]
     pub fn new(settings: Settings) -> Result<Layout, Refusal>
         ensures bad { IsErrOf result Refusal.Settings ↔ (bad_settings settings ≡ true) }
         ensures refusal { IsOkUnless result Refusal.Settings }
@@ -28,6 +29,7 @@ impl Layout {
     }
 
     // The places of slot i.
+    #[inline(always)]
     pub fn slot(self, i: u64) -> Range<usize>
         requires { i * self.settings.size + self.settings.size < 2 ^ 64 }
         ensures start { result.start ≡ i * self.settings.size }

@@ -27,6 +27,9 @@ pub record Counting (f : View) (F start at n : ℕ) : Type 0 where
   pub most : n ≤ F - 1
   pub is : code n (free_from f F (F - 1 - n) at) ≡ code 0 (free_from f F (F - 1) start)
 
+pub start : (f : View) (F a : ℕ) → Counting f F a a 0
+start f F a = let e : F - 1 - 0 ≡ F - 1 = omega arith in record { most = omega arith; is = rw e refl }
+
 is_none : (o : Option (List ℕ)) → 0 ≡ code 0 o → free_list_test o ≡ 11
 unfolding code free_list_test
 is_none none e = refl
@@ -38,7 +41,7 @@ is_some n none e = absurd (omega arith)
 is_some n (some l) e = (refl, omega arith)
 
 module _ (f : View) (F a at n : ℕ) (c : Counting f F a at n) where
-  ends : at ≡ 0 → (free_list_test (free_from f F (F - 1) a) ≡ 0) × (length (members_of (free_from f F (F - 1) a)) ≡ n)
+  pub ends : at ≡ 0 → (free_list_test (free_from f F (F - 1) a) ≡ 0) × (length (members_of (free_from f F (F - 1) a)) ≡ n)
   unfolding code
   ends e = is_some n (free_from f F (F - 1) a) (let z : suc n ≡ suc (n + 0) = omega arith in z ∙ sym (ap (code n) (free_end f F (F - 1 - n) at e)) ∙ c.is)
 

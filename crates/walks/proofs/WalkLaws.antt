@@ -79,6 +79,9 @@ pub record Tallied (s : Settings) (f : View) (F start at n k : ℕ) : Type 0 whe
   pub few : k ≤ n * s.size
   pub is : (mark : Bool) → tally f n k (parts_from s f F mark (eqb n 0) (F - 2 - n) at) ≡ tally f 0 0 (parts_from s f F mark true (F - 2) start)
 
+pub start : (s : Settings) (f : View) (F a : ℕ) → Tallied s f F a a 0 0
+start s f F a = let e : F - 2 - 0 ≡ F - 2 = omega arith in record { few = omega arith; is = λ mark. rw e refl }
+
 -- a fault is the whole walk's fault, an end its end
 is_fault : (f : View) (m j : ℕ) (l : List ℕ) → fault m ≡ tallied f 0 0 j l → j ≡ m
 unfolding tallied

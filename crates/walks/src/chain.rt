@@ -14,6 +14,7 @@ use definition::{Part, PartKind, Refusal};
 use reader::{Table, read_total};
 
 // The later parts from slot `start` on: each link, then each part, at most FILLED - 2 of them.
+#[inline(always)]
 fn walk_rest(table: &Table, start: u64) -> Result<Extent, Refusal>
     requires { 2 ≤ table.now.header.filled }
     ensures { (mark : Bool) → RestIs result (slots_of table.now) (parts_from table.now.layout.settings (slots_of table.now) table.now.header.filled mark true (table.now.header.filled - 2) start) }
@@ -45,6 +46,7 @@ fn walk_rest(table: &Table, start: u64) -> Result<Extent, Refusal>
 }
 
 // The chain at the head in slot `at`, which holds n bytes and links to `next`: its later parts, then its total.
+#[inline(always)]
 fn walk_parts(table: &Table, at: u64, n: usize, next: u64) -> Result<Extent, Refusal>
     requires { (at < table.now.header.filled) × (2 ≤ table.now.header.filled) × (table.now.layout.settings.multipart ≡ true)
         × (next ≡ head_link table.now.layout.settings (slots_of table.now at))
@@ -63,6 +65,7 @@ fn walk_parts(table: &Table, at: u64, n: usize, next: u64) -> Result<Extent, Ref
 }
 
 // The chain that starts in slot `at`, parsed as this part: a plain slot is all of it.
+#[inline(always)]
 fn walk_chain(table: &Table, at: u64, start: Part) -> Result<Extent, Refusal>
     requires { (0 < at) × (at < table.now.header.filled)
         × (part start.kind start.bytes ≡ start_part table.now.layout.settings (slots_of table.now at))

@@ -2,6 +2,8 @@
 ghost use Rattle.std.specs.Prelude.{◌≡◌, ◌+◌, ◌≤◌, length, take, drop};
 ghost use Rattle.writer.specs.Bodies.{body_of};
 
+use numbers::blocks::copy_blocks;
+
 #[derive(Clone, Copy)]
 pub struct Body<'a> {
     pub prefix: &'a [u8],
@@ -25,13 +27,13 @@ impl<'a> Body<'a> {
         let p = self.prefix.len();
         let n = to.len();
         if from >= p {
-            to.copy_from_slice(&self.content[from - p..from - p + n]);
+            copy_blocks(to, &self.content[from - p..from - p + n]);
         } else if from + n <= p {
-            to.copy_from_slice(&self.prefix[from..from + n]);
+            copy_blocks(to, &self.prefix[from..from + n]);
         } else {
             let k = p - from;
-            to[..k].copy_from_slice(&self.prefix[from..]);
-            to[k..].copy_from_slice(&self.content[..n - k]);
+            copy_blocks(&mut to[..k], &self.prefix[from..]);
+            copy_blocks(&mut to[k..], &self.content[..n - k]);
         }
     }
 }

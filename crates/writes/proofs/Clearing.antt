@@ -52,7 +52,7 @@ pub record Clearing (s : Settings) (same : Bool) (T t : List ℕ) (at : ℕ) (h 
   pub left : store s.size t (clear_stores same old free h.filled) ≡ T
 
 -- the slot lies in the table
-slot_inside : (s : Settings) (t old free : List ℕ) (at : ℕ) (h : Header) → Freeing s t old free at h → at * s.size + s.size ≤ length t
+pub slot_inside : (s : Settings) (t old free : List ℕ) (at : ℕ) (h : Header) → Freeing s t old free at h → at * s.size + s.size ≤ length t
 slot_inside s t old free at h g = within s.size at h.filled (length t) (linked_below (next_part s) (view s.size t) h.filled at old g.some g.links) g.room
 
 -- the slots still to be freed, counted by their links
@@ -64,12 +64,12 @@ clear_count s t old free at h g =
     (omega (arith, pigeon h.filled old (linked_in (next_part s) f h.filled at old g.links) g.once))
 
 -- after a turn, with n the next slot, t' the table and k the header: one slot less is to be freed
-record Turned (s : Settings) (same : Bool) (T t : List ℕ) (at : ℕ) (h : Header) (n : ℕ) (t' : List ℕ) (k : Header) : Type 0 where
+pub record Turned (s : Settings) (same : Bool) (T t : List ℕ) (at : ℕ) (h : Header) (n : ℕ) (t' : List ℕ) (k : Header) : Type 0 where
   pub going : Clearing s same T t' n k
   pub less : link_count (next_part s) (view s.size t') k.filled n < link_count (next_part s) (view s.size t) h.filled at
 
 module _ (s : Settings) (same : Bool) (T t : List ℕ) (at : ℕ) (h : Header) (g : Clearing s same T t at h) where
-  clear_turn : (n : ℕ) (t' : List ℕ) (k : Header) → at ≢ 0 → n ≡ next_part s (view s.size t at) → t' ≡ put t (at * s.size) (free_slot h.removed)
+  pub clear_turn : (n : ℕ) (t' : List ℕ) (k : Header) → at ≢ 0 → n ≡ next_part s (view s.size t at) → t' ≡ put t (at * s.size) (free_slot h.removed)
       → k ≡ freed_onto at h → Turned s same T t at h n t' k
   unfolding store occ head_d
   clear_turn n t' k nz e w ek = rw ek (go g.old g.freeing g.left)
@@ -107,7 +107,7 @@ module _ (s : Settings) (same : Bool) (T t : List ℕ) (at : ℕ) (h : Header) (
           }
 
   -- all slots are freed, and the header stays
-  clear_done : at ≡ 0 → same ≡ true → t ≡ T
+  pub clear_done : at ≡ 0 → same ≡ true → t ≡ T
   unfolding store
   clear_done z e = go g.old g.freeing g.left
     where
@@ -116,7 +116,7 @@ module _ (s : Settings) (same : Bool) (T t : List ℕ) (at : ℕ) (h : Header) (
       go (x ∷ l) k q = absurd (omega (arith, k.links.0, k.links.1))
 
   -- or it is stored
-  clear_header : (t' : List ℕ) → at ≡ 0 → same ≡ false → t' ≡ put t 0 (header_store h.removed h.filled).1 → t' ≡ T
+  pub clear_header : (t' : List ℕ) → at ≡ 0 → same ≡ false → t' ≡ put t 0 (header_store h.removed h.filled).1 → t' ≡ T
   clear_header t' z e w = go g.old g.freeing g.left
     where
       go : (l : List ℕ) → Freeing s t l g.free at h → store s.size t (clear_stores same l g.free h.filled) ≡ T → t' ≡ T

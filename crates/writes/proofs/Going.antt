@@ -142,7 +142,7 @@ first_piece : (s : Settings) (body : List ℕ) → Fit s body → Some (pieces s
 first_piece s body fit = let k = pieces_left s body fit 0 in record { piece = k.piece; more = k.more; is = sym (pieces_start s body) ∙ k.is }
 
 module _ (s : Settings) (same : Bool) (body t old free : List ℕ) (at : ℕ) (h : Header) (fit : Fit s body) (r : Ready s same body t old free at h) where
-  begin : (mark : Bool) (total : ℕ) (y : Taken) → y ≡ taken_from s (view s.size t) at h
+  pub begin : (mark : Bool) (total : ℕ) (y : Taken) → y ≡ taken_from s (view s.size t) at h
       → Going s mark total same body (store s.size t (effect s mark total (pieces s body) old free h.filled)) t 0 y
   begin mark total y ey =
       let f : View = view s.size t in
@@ -176,11 +176,11 @@ pub record Ended (s : Settings) (same : Bool) (T t t' old free : List ℕ) (to :
 
 module _ (s : Settings) (mark : Bool) (total : ℕ) (same : Bool) (body T : List ℕ) (fit : Fit s body)
     (t : List ℕ) (pos : ℕ) (to : Taken) (g : Going s mark total same body T t pos to) where
-  going_asks : Asked s t to.rest to.header
+  pub going_asks : Asked s t to.rest to.header
   going_asks = next_asks s t g.old g.free to.rest (length g.more) to.header (omega (arith, g.low)) g.old_links g.free_links g.room
 
   -- the slot in hand lies in the table
-  slot_fits : to.slot * s.size + s.size ≤ length t
+  pub slot_fits : to.slot * s.size + s.size ≤ length t
   slot_fits = within s.size to.slot to.header.filled (length t) g.low going_asks.2
 
   -- bytes laid over the slot in hand leave the links of the others
@@ -193,7 +193,7 @@ module _ (s : Settings) (mark : Bool) (total : ℕ) (same : Bool) (body T : List
         let v : view s.size t' ≡ upd (view s.size t) to.slot bs = rw w (view_put s.size to.slot t bs fits slot_fits) in
         rw v (linked_upd next (view s.size t) F to.slot bs a l z k)
 
-  go_on : (y : Taken) (pos' : ℕ) (t' : List ℕ) → s.size - word_bytes < length body - pos → y ≡ taken_from s (view s.size t) to.rest to.header
+  pub go_on : (y : Taken) (pos' : ℕ) (t' : List ℕ) → s.size - word_bytes < length body - pos → y ≡ taken_from s (view s.size t) to.rest to.header
       → t' ≡ put t (to.slot * s.size) (linked_part s mark total y.slot pos body) → pos' ≡ place_after s pos
       → Going s mark total same body T t' pos' y
   unfolding store
@@ -232,7 +232,7 @@ module _ (s : Settings) (mark : Bool) (total : ℕ) (same : Bool) (body T : List
         left = rw (ep, w, k.slot, k.filled) (sym (ap (store s.size t) (still_step s mark total same body pos to.slot old free F q.piece q.more (omega (arith, place.0)))) ∙ rw (← cp, ← cm) g.left);
       }
 
-  last_part : (t' : List ℕ) → length body - pos ≤ s.size - word_bytes → t' ≡ put t (to.slot * s.size) (sized_part mark (drop pos body))
+  pub last_part : (t' : List ℕ) → length body - pos ≤ s.size - word_bytes → t' ≡ put t (to.slot * s.size) (sized_part mark (drop pos body))
       → Ended s same T t t' g.old g.free to
   unfolding store
   last_part t' h w =

@@ -41,16 +41,16 @@ module _ (s : Settings) (b : List ℕ) where
 -- ---- the slot taken
 
 module _ (s : Settings) (f : View) (at : ℕ) (h : Header) where
-  taken_old : at ≢ 0 → taken_from s f at h ≡ record { slot = at; rest = next_part s (f at); header = h }
+  pub taken_old : at ≢ 0 → taken_from s f at h ≡ record { slot = at; rest = next_part s (f at); header = h }
   unfolding taken_from
   taken_old z = cond_no (eqb at 0) _ _ (ne_eqb at 0 z)
 
-  taken_free_lem : at ≡ 0 → h.removed ≢ 0
+  pub taken_free_lem : at ≡ 0 → h.removed ≢ 0
       → taken_from s f at h ≡ record { slot = h.removed; rest = 0; header = record { removed = link_of (f h.removed); filled = h.filled } }
   unfolding taken_from
   taken_free_lem y z = cond_yes (eqb at 0) _ _ (eq-eqb at 0 y) ∙ cond_no (eqb h.removed 0) _ _ (ne_eqb h.removed 0 z)
 
-  taken_unused : at ≡ 0 → h.removed ≡ 0
+  pub taken_unused : at ≡ 0 → h.removed ≡ 0
       → taken_from s f at h ≡ record { slot = h.filled; rest = 0; header = record { removed = 0; filled = h.filled + 1 } }
   unfolding taken_from
   taken_unused y z = cond_yes (eqb at 0) _ _ (eq-eqb at 0 y) ∙ cond_yes (eqb h.removed 0) _ _ (eq-eqb h.removed 0 z)

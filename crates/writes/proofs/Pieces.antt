@@ -40,22 +40,22 @@ module _ (s : Settings) (pos : ℕ) where
       go (is_yes y) = let e = overhead_head (eqb-true pos 0 y) in (omega (arith, overhead_bounds s), omega arith)
       go (is_no y) = let e = overhead_later (eqb-false pos 0 y) in (omega arith, omega (arith, overhead_bounds s))
 
-  head_after : (o : ℕ) → pos ≡ 0 → o ≡ head_overhead s → s.size - o ≡ place_after s pos
+  pub head_after : (o : ℕ) → pos ≡ 0 → o ≡ head_overhead s → s.size - o ≡ place_after s pos
   unfolding place_after
   head_after o z e = let k = overhead_head z in omega arith
 
-  later_after : pos ≢ 0 → pos + (s.size - link_overhead) ≡ place_after s pos
+  pub later_after : pos ≢ 0 → pos + (s.size - link_overhead) ≡ place_after s pos
   unfolding place_after
   later_after z = ap (λ (n : ℕ). pos + (s.size - n)) (sym (overhead_later z))
 
   module _ (mark : Bool) (total next : ℕ) (body : List ℕ) where
-    part_head : pos ≡ 0 → head_part s mark total next (take (s.size - head_overhead s) body) ≡ linked_part s mark total next pos body
+    pub part_head : pos ≡ 0 → head_part s mark total next (take (s.size - head_overhead s) body) ≡ linked_part s mark total next pos body
     unfolding linked_part piece_at
     part_head z =
         ap₂ (λ (n k : ℕ). head_part s mark total next (take (s.size - n) (drop k body))) (sym (overhead_head z)) (sym z)
         ∙ sym (cond_yes (eqb pos 0) _ _ (eq-eqb pos 0 z))
 
-    part_later : pos ≢ 0 → continuation_part next (take (s.size - link_overhead) (drop pos body)) ≡ linked_part s mark total next pos body
+    pub part_later : pos ≢ 0 → continuation_part next (take (s.size - link_overhead) (drop pos body)) ≡ linked_part s mark total next pos body
     unfolding linked_part piece_at
     part_later z =
         ap (λ (n : ℕ). continuation_part next (take (s.size - n) (drop pos body))) (sym (overhead_later z)) ∙ sym (cond_no (eqb pos 0) _ _ (ne_eqb pos 0 z))
