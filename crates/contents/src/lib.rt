@@ -1,4 +1,5 @@
-// The content of a chain copied out: any number of its bytes, from any place in it on.
+// The content of a chain copied out: any number of its bytes, from any place in it on. All of it inlined down to `copy_blocks`: reader's
+// `Slot::parse_head` says why.
 #![tactic(auto)]
 
 ghost use Rattle.std.specs.Prelude.{◌≡◌, List, ℕ, ◌+◌, ◌-◌, ◌≤◌, min, length, take, drop};

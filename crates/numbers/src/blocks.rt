@@ -1,5 +1,5 @@
-// Bytes copied, in blocks: a longer piece the C library moves in another way, which takes up to 1.8 times as long (docs/SPEED.md, "Long
-// pieces").
+// Bytes copied, in blocks: from some 8 KiB on the C library moves a piece in another way, which takes up to 1.6 times as long (docs/SPEED.md,
+// "Long pieces").
 ghost use Rattle.std.specs.Prelude.{◌≡◌, length};
 
 // The bytes of a block. A part of a multipart table is no longer, and so one block.

@@ -1,5 +1,5 @@
 // A table with settings that passed test 1, its own header, and FILLED slots within it: what every look at it starts from. `open` makes one
-// by tests 1, 2 and 3.
+// by tests 1, 2 and 3. What a read goes through is inlined: `Slot::parse_head` says why.
 ghost use Rattle.std.specs.Prelude.{◌≡◌, ◌*◌, ◌≤◌, ◌<◌, length};
 ghost use Rattle.definition.specs.Slots.{view, header_of};
 

@@ -1,4 +1,5 @@
-// The partial key, bytes 6 to 31 of the 32-byte hash: compared with the one in a slot, and written after the count.
+// The partial key, bytes 6 to 31 of the 32-byte hash: compared with the one in a slot, and written after the count. The comparison is
+// inlined: reader's `Slot::parse_head` says why.
 ghost use Rattle.std.specs.Prelude.{◌≡◌, ◌+◌, ◌≤◌, length, take, drop};
 ghost use Rattle.definition.specs.Numbers.{same_bytes};
 ghost use Rattle.definition.specs.Settings.{key_bytes, hash_bytes, prefix_len};
@@ -50,6 +51,7 @@ pub fn write_prefix(buf: &mut [u8; PREFIX_SIZE], s: Settings, key: &[u8]) -> usi
     }
     let at = s.count_len();
     if s.keyed {
+        // So many bytes, and not all that are left: a constant length is moved inline, for another the C library is asked for memcpy.
         buf[at..at + PARTIAL_SIZE].copy_from_slice(&key[KEY_SKIP..KEY_SKIP + PARTIAL_SIZE]);
     }
     s.prefix_len()

@@ -1,4 +1,5 @@
-// Settings that passed test 1, and where the slots of a table with them lie.
+// Settings that passed test 1, and where the slots of a table with them lie. Inlined, as all that a read goes through: reader's
+// `Slot::parse_head` says why.
 ghost use Rattle.std.specs.Prelude.{◌≡◌, false, ◌+◌, ◌*◌, ◌≤◌, ◌<◌, ◌^◌, IsErrOf, IsOkUnless, IfOk, true, ◌↔◌};
 ghost use Rattle.definition.specs.Settings.{bad_settings, least_size, largest_size};
 

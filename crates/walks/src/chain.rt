@@ -1,4 +1,5 @@
 // The walk of a chain: the slot's test, the head's tests, the later parts in chain order, the total last.
+// All of it inlined: reader's `Slot::parse_head` says why.
 ghost use Rattle.std.specs.Prelude.{◌≡◌, Bool, true, ◌-◌, ◌≤◌, ◌<◌};
 ghost use Rattle.std.proofs.Math.Option.{none};
 ghost use Rattle.definition.specs.Settings.{head_overhead};
